@@ -1,0 +1,3 @@
+pub mod Members
+pub mod Sets
+pub mod Marks

@@ -1,0 +1,5 @@
+pub mod Kinds
+pub mod Releases
+pub mod Content
+pub mod Held
+pub mod Declarations

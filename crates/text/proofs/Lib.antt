@@ -1,0 +1,9 @@
+pub mod Cuts
+pub mod Numerals
+pub mod Fields
+pub mod Standing
+pub mod LineLaw
+pub mod Growth
+pub mod Steps
+pub mod Writings
+pub mod Single
