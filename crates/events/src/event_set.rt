@@ -12,7 +12,7 @@ use crate::members::EventMembers;
 use crate::word;
 
 // The event `k` is a member if the bit `k` is 1.
-#[derive(Clone, Copy, PartialEq, Eq, Debug)]
+#[derive(Clone, Copy)]
 pub struct EventSet {
     bits: u64,
 }

@@ -5,12 +5,10 @@ ghost use Rattle.events.specs.Members.{member, named};
 ghost use mathlib.Core.Bool.{_&&_, cond};
 ghost use mathlib.Core.Path.{_≡_};
 use crate::event_set::EventSet;
-use crate::event_set::EventSetDebug;
-use crate::event_set::EventSetPartialEq;
 use crate::marks::Marks;
 
 // The events with each mark.
-#[derive(Clone, Copy, PartialEq, Eq, Debug)]
+#[derive(Clone, Copy)]
 pub struct Marking {
     pub executed: EventSet,
     pub pending: EventSet,

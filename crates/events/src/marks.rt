@@ -4,7 +4,7 @@ ghost use Rattle.events.specs.Marks.{sumOf, unmarked, Sums-tell-marks};
 ghost use Rattle.std.specs.Options.{Cases as BySome};
 ghost use mathlib.Core.Path.{_≡_};
 
-#[derive(Clone, Copy, PartialEq, Eq, Debug)]
+#[derive(Clone, Copy)]
 pub struct Marks {
     pub executed: bool,
     pub pending: bool,

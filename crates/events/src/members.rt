@@ -2,11 +2,9 @@
 ghost use Rattle.events.specs.Members.{TakesLowest};
 ghost use lib.Count.{ones};
 use crate::event_set::EventSet;
-use crate::event_set::EventSetDebug;
 use crate::station_set::StationSet;
-use crate::station_set::StationSetDebug;
 
-#[derive(Clone, Debug, Drop)]
+#[derive(Clone, Copy)]
 pub struct EventMembers {
     pub rest: EventSet,
 }
@@ -27,7 +25,7 @@ pub impl Iterator for EventMembers as EventMembersIterator {
     }
 }
 
-#[derive(Clone, Debug, Drop)]
+#[derive(Clone, Copy)]
 pub struct StationMembers {
     pub rest: StationSet,
 }

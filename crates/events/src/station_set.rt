@@ -11,7 +11,7 @@ use crate::byte;
 use crate::members::StationMembers;
 
 // The station `k` is a member if the bit `k` is 1.
-#[derive(Clone, Copy, PartialEq, Eq, Debug)]
+#[derive(Clone, Copy)]
 pub struct StationSet {
     bits: u8,
 }

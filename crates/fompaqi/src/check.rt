@@ -2,12 +2,12 @@ use crate::explain::meaning;
 use crate::input::text_of;
 use graph::graph::Graph;
 use graph::release::Release;
+use lexer::lines::line_at;
 use std::alloc::AllocError;
 use std::alloc::Global;
 use std::error::AnyError;
 use text::builder::read;
 use text::fault::GraphFault;
-use text::lines::line_at;
 
 /// The most bytes of a faulty line that are shown.
 const SHOWN: usize = 120;
@@ -35,7 +35,10 @@ fn print_graph(rt: &LibcRuntime, graph: &Graph) -> Result<(), AnyError> {
     let release = graph.release().number();
     let events = graph.events().len();
     let relations = graph.relations().len();
-    println!(rt, "ok: {stations} stations, release {release}, {events} events, {relations} relations")?;
+    println!(
+        rt,
+        "ok: {stations} stations, release {release}, {events} events, {relations} relations"
+    )?;
     Ok(())
 }
 
@@ -61,7 +64,11 @@ fn print_fault(rt: &LibcRuntime, fault: GraphFault, text: &[u8]) -> Result<(), A
 fn printable(heap: Global, bytes: &[u8]) -> Result<String, AllocError> {
     let mut shown = String::new(heap);
     for byte in bytes.iter().copied().take(SHOWN) {
-        let c = if b' ' <= byte && byte <= b'~' { byte as char } else { '?' };
+        let c = if b' ' <= byte && byte <= b'~' {
+            byte as char
+        } else {
+            '?'
+        };
         shown.push(c)?;
     }
     if bytes.len() > SHOWN {

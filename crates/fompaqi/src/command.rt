@@ -20,16 +20,32 @@ pub enum UsageError {
 pub impl fmt::Display for UsageError as UsageErrorDisplay {
     fn fmt<W: fmt::Write>(&self, f: &mut fmt::Formatter<W>) -> fmt::Result {
         match self {
-            UsageError::NoCommand => write!(f, "fompaqi: no command: say what to do, as 'fompaqi check GRAPH'"),
-            UsageError::Unknown(name) => write!(f, "fompaqi: unknown command '{name}': the commands are listed below"),
-            UsageError::NoGraph => write!(f, "fompaqi: check: no file: name the file of the graph text"),
-            UsageError::Surplus(word) => write!(f, "fompaqi: unexpected word '{word}': leave it out"),
+            UsageError::NoCommand => write!(
+                f,
+                "fompaqi: no command: say what to do, as 'fompaqi check GRAPH'"
+            ),
+            UsageError::Unknown(name) => write!(
+                f,
+                "fompaqi: unknown command '{name}': the commands are listed below"
+            ),
+            UsageError::NoGraph => write!(
+                f,
+                "fompaqi: check: no file: name the file of the graph text"
+            ),
+            UsageError::Surplus(word) => write!(
+                f,
+                "fompaqi: unexpected word '{word}': leave it out"
+            ),
         }
     }
 }
 
 /// The command that the words give.
-pub fn of(name: Option<String>, argument: Option<String>, surplus: Option<String>) -> Result<Command, UsageError> {
+pub fn of(
+    name: Option<String>,
+    argument: Option<String>,
+    surplus: Option<String>,
+) -> Result<Command, UsageError> {
     let Some(name) = name else {
         return Err(UsageError::NoCommand);
     };

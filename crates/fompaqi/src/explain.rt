@@ -15,8 +15,10 @@ pub fn meaning(report: Report, letter: Option<u8>) -> &'static str {
 
 fn form(letter: Option<u8>) -> &'static str {
     match letter {
-        Some(b's') => "an s line is 's STATIONS RELEASE': one space before each number, numbers 0 to 999 without leading zero",
-        Some(b'e') => "an e line is 'e EVENT OWNER MARKS': one space before each number, numbers 0 to 999 without leading zero",
+        Some(b's') =>
+            "an s line is 's STATIONS RELEASE': one space before each number, numbers 0 to 999 without leading zero",
+        Some(b'e') =>
+            "an e line is 'e EVENT OWNER MARKS': one space before each number, numbers 0 to 999 without leading zero",
         Some(b'c' | b'm' | b'r' | b'i' | b'x') => {
             "a relation line is its letter and two events: one space before each number, numbers 0 to 999 without leading zero"
         }
@@ -28,8 +30,10 @@ fn form(letter: Option<u8>) -> &'static str {
 fn value(letter: Option<u8>) -> &'static str {
     match letter {
         Some(b's') => "there are 1 to 8 stations, and the release is 4 or 6",
-        Some(b'e') => "events are numbered in turn from 0, the owner is a station, and marks are 0 to 7",
-        Some(b'm') => "both events are declared by e lines above, and release 4 has no milestones (m)",
+        Some(b'e') =>
+            "events are numbered in turn from 0, the owner is a station, and marks are 0 to 7",
+        Some(b'm') =>
+            "both events are declared by e lines above, and release 4 has no milestones (m)",
         _ => "both events are declared by e lines above",
     }
 }

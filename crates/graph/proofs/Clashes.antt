@@ -35,6 +35,6 @@ pub apart-push : (rs : List Relation) (r : Relation) → met rs r ≡ false → 
 apart-push rs r none h i j ij jn =
     let kept : i < length rs → relationAt (rs ++ r ∷ []) i ≡ relationAt rs i = λ l. getD-append-left rs (r ∷ []) blank i l in
     push blank (λ k x. i < k → clash (relationAt (rs ++ r ∷ []) i) x ≡ true → ⊥) rs r
-      (λ k kn ik e. h i k ik kn (subst (λ y. clash y (relationAt rs k) ≡ true) (kept (omega arith)) e))
-      (λ ik e. both-ways _ (unmet rs r none i ik) (subst (λ y. clash y r ≡ true) (kept ik) e))
-      j jn ij
+    (λ k kn ik e. h i k ik kn (subst (λ y. clash y (relationAt rs k) ≡ true) (kept (omega arith)) e))
+    (λ ik e. both-ways _ (unmet rs r none i ik) (subst (λ y. clash y r ≡ true) (kept ik) e))
+    j jn ij

@@ -14,8 +14,8 @@ module _ {X : Type 0} (d : X) where
       ⊎-elim
       (λ l. subst (P i) (sym (getD-append-left xs (x ∷ []) d i l)) (below i l))
       (λ g.
-        let e : length xs ≡ i = omega (arith, length-push xs x) in
-        subst (P i) (sym (getD-at xs x [] d i e)) (subst (λ k. P k x) e here))
+      let e : length xs ≡ i = omega (arith, length-push xs x) in
+      subst (P i) (sym (getD-at xs x [] d i e)) (subst (λ k. P k x) e here))
       (cases-lt i (length xs))
 
   -- the same for the first n places of a table

@@ -10,7 +10,7 @@ held d =
       stations = d .stations;
       release = d .release;
       events = take (d .events) (d .rows);
-      relations = take (d .relations) (d .table)
+      relations = take (d .relations) (d .table);
     }
 
 abbrev pub content : Graph → Content

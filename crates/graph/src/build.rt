@@ -20,17 +20,35 @@ use crate::release::Release;
 use events::Marks;
 
 /// The zero record of an event.
-const BARE: Event = Event { owner: 0, marks: Marks { executed: false, pending: false, included: false } };
+const BARE: Event = Event {
+    owner: 0,
+    marks: Marks {
+        executed: false,
+        pending: false,
+        included: false,
+    },
+};
 
 /// The zero record of a relation.
-const BLANK: Relation = Relation { kind: Kind::Condition, from: 0, to: 0 };
+const BLANK: Relation = Relation {
+    kind: Kind::Condition,
+    from: 0,
+    to: 0,
+};
 
 impl Graph {
     /// The empty graph: one station, release 6, one event with owner and marks 0, no relation.
     pub fn empty() -> Graph
         ensures { λ r. ⌜ content r ≡ emptyContent ⌝ }
     {
-        let draft = Draft { stations: 1, release: Release::Six, rows: [BARE; 64], events: 1, table: [BLANK; 512], relations: 0 };
+        let draft = Draft {
+            stations: 1,
+            release: Release::Six,
+            rows: [BARE; 64],
+            events: 1,
+            table: [BLANK; 512],
+            relations: 0,
+        };
         Graph { draft }
     }
 }
@@ -45,14 +63,21 @@ impl Draft {
             return None;
         }
         let release = Release::of_number(release)?;
-        Some(Draft { stations: stations as u8, release, rows: [BARE; 64], events: 0, table: [BLANK; 512], relations: 0 })
+        Some(Draft {
+            stations: stations as u8,
+            release,
+            rows: [BARE; 64],
+            events: 0,
+            table: [BLANK; 512],
+            relations: 0,
+        })
     }
 
     /// Declares the next event, or refuses it and stays as it was.
     pub fn add_event(&mut self, number: u16, owner: u16, marks: u16) -> Result<(), BuildError>
         ensures { λ r. ⌜ Cases r
             (λ _. (eventError (held (now (self .entry))) number owner marks ≡ None)
-                × ((e : AnyEvent) × Declared e owner marks × (held (now (self .exit)) ≡ plusEvent (held (now (self .entry))) e)))
+            × ((e : AnyEvent) × Declared e owner marks × (held (now (self .exit)) ≡ plusEvent (held (now (self .entry))) e)))
             (λ f. (eventError (held (now (self .entry))) number owner marks ≡ Some f) × (now (self .exit) ≡ now (self .entry))) ⌝ }
     {
         if self.events == 64 {
@@ -64,7 +89,10 @@ impl Draft {
         let Some(marks) = Marks::of_sum(marks) else {
             return Err(BuildError::Invalid);
         };
-        self.rows[self.events as usize] = Event { owner: owner as u8, marks };
+        self.rows[self.events as usize] = Event {
+            owner: owner as u8,
+            marks,
+        };
         self.events += 1;
         Ok(())
     }
@@ -85,7 +113,7 @@ impl Draft {
     pub fn add_relation(&mut self, kind: Kind, from: u16, to: u16) -> Result<(), BuildError>
         ensures { λ r. ⌜ Cases r
             (λ _. (relationError (held (now (self .entry))) kind from to ≡ None)
-                × (held (now (self .exit)) ≡ plusRelation (held (now (self .entry))) (record { kind = kind; from = from; to = to })))
+            × (held (now (self .exit)) ≡ plusRelation (held (now (self .entry))) (record { kind = kind; from = from; to = to })))
             (λ f. (relationError (held (now (self .entry))) kind from to ≡ Some f) × (now (self .exit) ≡ now (self .entry))) ⌝ }
     {
         if self.relations == 512 {
@@ -97,7 +125,11 @@ impl Draft {
         if !self.release.allows(kind) {
             return Err(BuildError::Invalid);
         }
-        let relation = Relation { kind, from: from as u8, to: to as u8 };
+        let relation = Relation {
+            kind,
+            from: from as u8,
+            to: to as u8,
+        };
         if self.conflicts(relation) {
             return Err(BuildError::Conflict);
         }

@@ -1,8 +1,5 @@
-ghost use Rattle.graph.specs.Declarations.{errorNumber};
-ghost use mathlib.Core.Path.{_≡_};
-
 /// Why a draft refuses a declaration.
-#[derive(Clone, Copy, PartialEq, Eq, Debug)]
+#[derive(Clone, Copy)]
 pub enum BuildError {
     /// There is no room for another event or relation.
     Full,
@@ -10,16 +7,4 @@ pub enum BuildError {
     Invalid,
     /// The relation stands already, or an include meets an exclude.
     Conflict,
-}
-
-impl BuildError {
-    pub fn number(self) -> u8
-        ensures { λ r. ⌜ r ≡ errorNumber self ⌝ }
-    {
-        match self {
-            BuildError::Full => 6,
-            BuildError::Invalid => 3,
-            BuildError::Conflict => 5,
-        }
-    }
 }

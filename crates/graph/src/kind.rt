@@ -2,7 +2,7 @@ ghost use Rattle.graph.specs.Kinds.{kindNumber, opposed};
 ghost use mathlib.Core.Path.{_≡_};
 
 /// What a relation means for its two events.
-#[derive(Clone, Copy, PartialEq, Eq, Debug)]
+#[derive(Clone, Copy)]
 pub enum Kind {
     Condition,
     Milestone,
@@ -26,12 +26,12 @@ impl Kind {
     }
 
     /// Whether relations of the two kinds cannot both stand on one pair of events.
-    pub fn is_opposed(self, other: Kind) -> bool
+    pub(crate) fn is_opposed(self, other: Kind) -> bool
         ensures { λ r. ⌜ r ≡ opposed self other ⌝ }
     {
         match (self, other) {
             (Kind::Include, Kind::Exclude) | (Kind::Exclude, Kind::Include) => true,
-            _ => self == other,
+            _ => self.number() == other.number(),
         }
     }
 }

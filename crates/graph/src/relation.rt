@@ -1,11 +1,9 @@
 ghost use Rattle.graph.specs.Content.{clash};
 ghost use mathlib.Core.Path.{_≡_};
 use crate::kind::Kind;
-use crate::kind::KindDebug;
-use crate::kind::KindPartialEq;
 
 /// A relation of a kind from one event to another.
-#[derive(Clone, Copy, PartialEq, Eq, Debug)]
+#[derive(Clone, Copy)]
 pub struct Relation {
     pub kind: Kind,
     pub from: u8,
@@ -14,7 +12,7 @@ pub struct Relation {
 
 impl Relation {
     /// Whether the two cannot both stand in a graph.
-    pub fn clashes(self, other: Relation) -> bool
+    pub(crate) fn clashes(self, other: Relation) -> bool
         ensures { λ r. ⌜ r ≡ clash self other ⌝ }
     {
         self.from == other.from && self.to == other.to && self.kind.is_opposed(other.kind)

@@ -5,7 +5,7 @@ ghost use mathlib.Core.Path.{_≡_};
 use crate::kind::Kind;
 
 /// The release whose rules a graph follows.
-#[derive(Clone, Copy, PartialEq, Eq, Debug)]
+#[derive(Clone, Copy)]
 pub enum Release {
     Four,
     Six,
@@ -33,7 +33,7 @@ impl Release {
     }
 
     /// Whether graphs of the release may have relations of the kind: release 4 has no milestones.
-    pub fn allows(self, kind: Kind) -> bool
+    pub(crate) fn allows(self, kind: Kind) -> bool
         ensures { λ r. ⌜ r ≡ not (barred self kind) ⌝ }
     {
         match (self, kind) {

@@ -1,9 +1,5 @@
-pub mod Cuts
-pub mod Numerals
 pub mod Fields
-pub mod Standing
-pub mod LineLaw
 pub mod Growth
+pub mod Single
 pub mod Steps
 pub mod Writings
-pub mod Single

@@ -18,30 +18,30 @@ use Rattle.graph.specs.Held.{content}
 use Rattle.text.specs.declared.declaration.Declaration.{Declaration}
 use Rattle.text.specs.declared.fault.GraphFault.{GraphFault}
 use Rattle.text.specs.declared.fault.Report.{Report}
-use Rattle.text.specs.Bytes.{clean}
+use Rattle.lexer.specs.Bytes.{clean}
 use Rattle.text.specs.Faults.{told}
-use Rattle.text.specs.Lines.{lines}
+use Rattle.lexer.specs.Lines.{lines}
 use Rattle.text.specs.Declarations.{Fits, declarations, numbered, related, written}
 use Rattle.text.specs.Reading.{Faulty, FirstFault, Refused, SoFar, Unfinished, Writes, breaks, declared}
 use Rattle.text.proofs.Writings.{clean-written, declarations-same, fits-declared, follows, map-same, no-fault, not-refused, one-writing, split-map, written-same}
 
 -- of two such beginnings of one list, one goes on from the other
 one-way : {A B : Type 0} (f : A → B) (P : A → Type 0) → ((x y : A) → P x → P y → f x ≡ f y → x ≡ y) → (xs ys : List A) (l m : B) (ls ms : List B) → All P xs → All P ys → map f xs ++ l ∷ ls ≡ map f ys ++ m ∷ ms →
-  ((xs ≡ ys) × (l ≡ m)) ⊎ (((i : A) × (zs : List A) × (ys ≡ xs ++ i ∷ zs) × (l ≡ f i) × P i) ⊎ ((i : A) × (zs : List A) × (xs ≡ ys ++ i ∷ zs) × (m ≡ f i) × P i))
+    ((xs ≡ ys) × (l ≡ m)) ⊎ (((i : A) × (zs : List A) × (ys ≡ xs ++ i ∷ zs) × (l ≡ f i) × P i) ⊎ ((i : A) × (zs : List A) × (xs ≡ ys ++ i ∷ zs) × (m ≡ f i) × P i))
 one-way f P inj [] [] l m ls ms px py e = let h : l ≡ m = cc in inl (refl, h)
 one-way f P inj [] (y ∷ ys) l m ls ms px py e = let h : l ≡ f y = cc in inr (inl (y, ys, refl, h, py .0))
 one-way f P inj (x ∷ xs) [] l m ls ms px py e = let h : m ≡ f x = cc in inr (inr (x, xs, refl, h, px .0))
 one-way f P inj (x ∷ xs) (y ∷ ys) l m ls ms px py e =
-  let h : f x ≡ f y = cc in
-  let t : map f xs ++ l ∷ ls ≡ map f ys ++ m ∷ ms = cc in
-  let s = inj x y (px .0) (py .0) h in
-  ⊎-elim
-  (λ r. inl ((λ j. s j ∷ r .0 j), r .1))
-  (λ q. ⊎-elim
+    let h : f x ≡ f y = cc in
+    let t : map f xs ++ l ∷ ls ≡ map f ys ++ m ∷ ms = cc in
+    let s = inj x y (px .0) (py .0) h in
+    ⊎-elim
+    (λ r. inl ((λ j. s j ∷ r .0 j), r .1))
+    (λ q. ⊎-elim
     (λ r. inr (inl (r .0, r .1, (λ j. sym s j ∷ r .2 j), r .3, r .4)))
     (λ r. inr (inr (r .0, r .1, (λ j. s j ∷ r .2 j), r .3, r .4)))
     q)
-  (one-way f P inj xs ys l m ls ms (px .1) (py .1) t)
+    (one-way f P inj xs ys l m ls ms (px .1) (py .1) t)
 
 declared-same : (a b : Option Content) → declared a ≡ declared b → a ≡ b
 declared-same None None e = refl
@@ -69,31 +69,31 @@ same-line a l k p q (inl (inr x)) (inr y) = absurd (x .1 (y .0) (y .1) (y .2))
 same-line a l k p q (inr x) (inl (inl y)) = absurd (both-ways _ (y .0) (ap clean (x .2) ∙ clean-written (x .0) (x .1)))
 same-line a l k p q (inr x) (inl (inr y)) = absurd (y .1 (x .0) (x .1) (x .2))
 same-line a l k p q (inr x) (inr y) =
-  let d = written-same (x .0) (y .0) (x .1) (y .1) (sym (x .2) ∙ y .2) in
-  x .4 ∙ (λ i. record { number = breaks a (d i); layer = 3; line = k }) ∙ sym (y .4)
+    let d = written-same (x .0) (y .0) (x .1) (y .1) (sym (x .2) ∙ y .2) in
+    x .4 ∙ (λ i. record { number = breaks a (d i); layer = 3; line = k }) ∙ sym (y .4)
 
 firsts : {ls : List (List ℕ)} {p q : Report} → FirstFault ls p → FirstFault ls q → p ≡ q
 firsts {ls} {p} {q} f g =
-  ⊎-elim
-  (λ r.
+    ⊎-elim
+    (λ r.
     let same = declared-same (f .before) (g .before) (r .0) in
     same-line (g .before) (g .line) _ p q (subst (λ b. Faulty b (g .line) (length (declared b) + 1) p) same (subst (λ l. Faulty (f .before) l (length (declared (f .before)) + 1) p) (r .1) (f .faulty))) (g .faulty))
-  (λ o. ⊎-elim
+    (λ o. ⊎-elim
     (λ r. absurd (no-later (f .before) (g .before) (r .0) (r .1) (f .line) _ p (g .sound) (r .2) (r .3) (r .4) (f .faulty)))
     (λ r. absurd (no-later (g .before) (f .before) (r .0) (r .1) (g .line) _ q (f .sound) (r .2) (r .3) (r .4) (g .faulty)))
     o)
-  (one-way written Fits written-same (declared (f .before)) (declared (g .before)) (f .line) (g .line) (f .rest) (g .rest) (fits-declared (f .before) (f .sound)) (fits-declared (g .before) (g .sound)) (sym (f .split) ∙ g .split))
+    (one-way written Fits written-same (declared (f .before)) (declared (g .before)) (f .line) (g .line) (f .rest) (g .rest) (fits-declared (f .before) (f .sound)) (fits-declared (g .before) (g .sound)) (sym (f .split) ∙ g .split))
 
 -- a text with a faulty line does not end too soon
 apart : {ls : List (List ℕ)} {p q : Report} → FirstFault ls p → Unfinished ls q → ⊥
 apart {ls} {p} f u =
-  let r = split-map written Fits written-same (declared (u .before)) (declared (f .before)) (f .line) (f .rest) (fits-declared (u .before) (u .sound)) (fits-declared (f .before) (f .sound)) (sym (u .all) ∙ f .split) in
-  no-later (f .before) (u .before) (r .0) (r .1) (f .line) _ p (u .sound) (r .2) (r .3) (r .4) (f .faulty)
+    let r = split-map written Fits written-same (declared (u .before)) (declared (f .before)) (f .line) (f .rest) (fits-declared (u .before) (u .sound)) (fits-declared (f .before) (f .sound)) (sym (u .all) ∙ f .split) in
+    no-later (f .before) (u .before) (r .0) (r .1) (f .line) _ p (u .sound) (r .2) (r .3) (r .4) (f .faulty)
 
 ends : {ls : List (List ℕ)} {p q : Report} → Unfinished ls p → Unfinished ls q → p ≡ q
 ends u v =
-  let same = map-same written Fits written-same (declared (u .before)) (declared (v .before)) (fits-declared (u .before) (u .sound)) (fits-declared (v .before) (v .sound)) (sym (u .all) ∙ v .all) in
-  u .told ∙ (λ i. record { number = 4; layer = 3; line = length (same i) + 1 }) ∙ sym (v .told)
+    let same = map-same written Fits written-same (declared (u .before)) (declared (v .before)) (fits-declared (u .before) (u .sound)) (fits-declared (v .before) (v .sound)) (sym (u .all) ∙ v .all) in
+    u .told ∙ (λ i. record { number = 4; layer = 3; line = length (same i) + 1 }) ∙ sym (v .told)
 
 pub one-fault : (text : List ℕ) (p q : Report) → Refused text p → Refused text q → p ≡ q
 one-fault text p q (inl a) (inl b) = a .1 ∙ sym (b .1)

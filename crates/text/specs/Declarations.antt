@@ -2,7 +2,6 @@
 use mathlib.Core.Path.{_≡_}
 use mathlib.Core.List.{List, [], _∷_, _++_, map}
 use Prim.Native.Nat.{ℕ, _+_, _<_}
-use lib.ListN.{getD, length}
 use Rattle.events.specs.Marks.{sumOf}
 use Rattle.graph.specs.declared.kind.Kind.{Kind}
 use Rattle.graph.specs.declared.kind.Kind.the-variants.{Condition, Milestone, Response, Include, Exclude}
@@ -12,7 +11,8 @@ use Rattle.graph.specs.Content.{Content}
 use Rattle.graph.specs.Releases.{releaseNumber}
 use Rattle.text.specs.declared.declaration.Declaration.{Declaration}
 use Rattle.text.specs.declared.declaration.Declaration.the-variants.{Stations, Event, Relation}
-use Rattle.text.specs.Numbers.{digits}
+use Rattle.lexer.specs.Numbers.{digits}
+use Rattle.lexer.specs.Words.{Stop}
 
 -- the letter of a relation line: c, m, r, i, x
 abbrev pub letterOf : Kind → ℕ
@@ -53,10 +53,6 @@ related r = Relation (r .kind) (r .from) (r .to)
 -- the declarations of a graph, in order: its stations and release, its events, its relations
 abbrev pub declarations : Content → List Declaration
 declarations c = Stations (c .stations) (releaseNumber (c .release)) ∷ numbered 0 (c .events) ++ map related (c .relations)
-
--- what follows a field: nothing, or the next space
-abbrev pub Stop : List ℕ → Type 0
-Stop tail = 0 < length tail → getD tail 0 0 ≡ 32
 
 -- no field, no one field, no two and no three fields stand there
 abbrev pub NoField : List ℕ → Type 0

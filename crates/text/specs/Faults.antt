@@ -1,6 +1,6 @@
 -- The number, the layer and the line of each fault.
 use Prim.Native.Nat.{ℕ}
-use Rattle.text.specs.declared.fault.ByteFault.the-variants.{TooLong, Unprintable}
+use Rattle.lexer.specs.declared.fault.ByteFault.the-variants.{TooLong, Unprintable}
 use Rattle.text.specs.declared.fault.LineFault.the-variants.{Byte, Form}
 use Rattle.text.specs.declared.fault.GraphFault.{GraphFault}
 use Rattle.text.specs.declared.fault.GraphFault.the-variants.{Line, Invalid, Order, Conflict, Full}

@@ -13,8 +13,8 @@ use Rattle.graph.specs.Declarations.{clashing, fitsEvent, fitsHead, fitsRelatio
 use Rattle.text.specs.declared.declaration.Declaration.{Declaration}
 use Rattle.text.specs.declared.declaration.Declaration.the-variants.{Stations, Event, Relation}
 use Rattle.text.specs.declared.fault.Report.{Report}
-use Rattle.text.specs.Bytes.{clean}
-use Rattle.text.specs.Lines.{lines}
+use Rattle.lexer.specs.Bytes.{clean}
+use Rattle.lexer.specs.Lines.{lines}
 use Rattle.text.specs.Declarations.{Fits, NoDeclaration, declarations, written}
 
 -- the text writes the graph down: its lines are those that write the graph's declarations

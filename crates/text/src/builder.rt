@@ -48,10 +48,16 @@ fn begin(first: Entry) -> Result<Draft, GraphFault>
     }
 }
 
-fn add_event(draft: &mut Draft, number: u16, owner: u16, marks: u16, line: usize) -> Result<(), GraphFault>
+fn add_event(
+    draft: &mut Draft,
+    number: u16,
+    owner: u16,
+    marks: u16,
+    line: usize,
+) -> Result<(), GraphFault>
     ensures { λ r. ⌜ Cases r (λ _. declarations (held (now (draft .exit))) ≡ declarations (held (now (draft .entry))) ++ EventLine number owner marks ∷ [])
         (λ f. (0 < breaks (Some (held (now (draft .entry)))) (EventLine number owner marks))
-            × (told f ≡ record { number = breaks (Some (held (now (draft .entry)))) (EventLine number owner marks); layer = 3; line = line })) ⌝ }
+        × (told f ≡ record { number = breaks (Some (held (now (draft .entry)))) (EventLine number owner marks); layer = 3; line = line })) ⌝ }
 {
     if draft.has_relations() {
         return Err(GraphFault::Order(line));
@@ -62,10 +68,16 @@ fn add_event(draft: &mut Draft, number: u16, owner: u16, marks: u16, line: usize
     }
 }
 
-fn add_relation(draft: &mut Draft, kind: Kind, from: u16, to: u16, line: usize) -> Result<(), GraphFault>
+fn add_relation(
+    draft: &mut Draft,
+    kind: Kind,
+    from: u16,
+    to: u16,
+    line: usize,
+) -> Result<(), GraphFault>
     ensures { λ r. ⌜ Cases r (λ _. declarations (held (now (draft .exit))) ≡ declarations (held (now (draft .entry))) ++ RelationLine kind from to ∷ [])
         (λ f. (0 < breaks (Some (held (now (draft .entry)))) (RelationLine kind from to))
-            × (told f ≡ record { number = breaks (Some (held (now (draft .entry)))) (RelationLine kind from to); layer = 3; line = line })) ⌝ }
+        × (told f ≡ record { number = breaks (Some (held (now (draft .entry)))) (RelationLine kind from to); layer = 3; line = line })) ⌝ }
 {
     match draft.add_relation(kind, from, to) {
         Ok(()) => Ok(()),
@@ -77,11 +89,17 @@ fn add_relation(draft: &mut Draft, kind: Kind, from: u16, to: u16, line: usize) 
 fn extend(draft: &mut Draft, entry: Entry) -> Result<(), GraphFault>
     ensures { λ r. ⌜ Cases r (λ _. declarations (held (now (draft .exit))) ≡ declarations (held (now (draft .entry))) ++ entry .declaration ∷ [])
         (λ f. (0 < breaks (Some (held (now (draft .entry)))) (entry .declaration))
-            × (told f ≡ record { number = breaks (Some (held (now (draft .entry)))) (entry .declaration); layer = 3; line = entry .line })) ⌝ }
+        × (told f ≡ record { number = breaks (Some (held (now (draft .entry)))) (entry .declaration); layer = 3; line = entry .line })) ⌝ }
 {
     match entry.declaration {
         Declaration::Stations(_, _) => Err(GraphFault::Order(entry.line)),
-        Declaration::Event(number, owner, marks) => add_event(draft, number, owner, marks, entry.line),
+        Declaration::Event(number, owner, marks) => add_event(
+            draft,
+            number,
+            owner,
+            marks,
+            entry.line,
+        ),
         Declaration::Relation(kind, from, to) => add_relation(draft, kind, from, to, entry.line),
     }
 }

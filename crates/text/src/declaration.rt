@@ -1,9 +1,7 @@
 use graph::kind::Kind;
-use graph::kind::KindDebug;
-use graph::kind::KindPartialEq;
 
 /// What one line declares, in its own numbers, before it is held against the graph.
-#[derive(Clone, Copy, PartialEq, Eq, Debug)]
+#[derive(Clone, Copy)]
 pub enum Declaration {
     /// How many stations, and the release.
     Stations(u16, u16),

@@ -2,18 +2,10 @@ ghost use Rattle.text.specs.Faults.{told};
 ghost use Rattle.text.specs.declared.fault.GraphFault.the-variants.{Line};
 ghost use Rattle.text.specs.declared.fault.LineFault.the-variants.{Byte};
 ghost use mathlib.Core.Path.{_≡_};
-
-/// A fault of a text's bytes: the first layer.
-#[derive(Clone, Copy, PartialEq, Eq, Debug)]
-pub enum ByteFault {
-    /// The text has more than 65,536 bytes.
-    TooLong,
-    /// The line of that number has a byte that is neither an end of line nor printable.
-    Unprintable(usize),
-}
+use lexer::fault::ByteFault;
 
 /// A fault of a line: the second layer.
-#[derive(Clone, Copy, PartialEq, Eq, Debug)]
+#[derive(Clone, Copy)]
 pub enum LineFault {
     Byte(ByteFault),
     /// The line of that number is empty or not made as any line is.
@@ -21,7 +13,7 @@ pub enum LineFault {
 }
 
 /// A fault of a text: the third layer, and what the lower ones pass up.
-#[derive(Clone, Copy, PartialEq, Eq, Debug)]
+#[derive(Clone, Copy)]
 pub enum GraphFault {
     Line(LineFault),
     /// The line declares what no graph may have.
@@ -35,7 +27,7 @@ pub enum GraphFault {
 }
 
 /// What a fault tells: its number, its layer and its line.
-#[derive(Clone, Copy, PartialEq, Eq, Debug)]
+#[derive(Clone, Copy)]
 pub struct Report {
     pub number: u8,
     pub layer: u8,
@@ -72,6 +64,10 @@ impl GraphFault {
             GraphFault::Conflict(line) => (5, 3, line),
             GraphFault::Full(line) => (6, 3, line),
         };
-        Report { number, layer, line }
+        Report {
+            number,
+            layer,
+            line,
+        }
     }
 }

@@ -1,9 +1,5 @@
-//! Reads a graph text in three layers: bytes and words, lines, and the graph that they declare.
+//! Reads a graph text over the words of the lexer: the lines and what they declare, and the graph.
 pub mod builder;
-mod bytes;
 pub mod declaration;
 pub mod fault;
-pub mod lines;
-mod numbers;
-pub mod parser;
-pub mod words;
+mod parser;

@@ -1,9 +1,10 @@
 ghost use Prim.Native.Nat.{ℕ, _+_, _-_, _^_, _<_, _≤_};
 ghost use Rattle.std.specs.Options.{Cases as BySome};
 ghost use Rattle.std.specs.Results.{Cases};
-ghost use Rattle.text.specs.Declarations.{Fits, NoDeclaration, NoField, NoLast, NoPair, NoTriple, Stop, field, letterOf, written};
+ghost use Rattle.lexer.specs.Words.{Stop};
+ghost use Rattle.text.specs.Declarations.{Fits, NoDeclaration, NoField, NoLast, NoPair, NoTriple, field, letterOf, written};
 ghost use Rattle.text.specs.Faults.{told};
-ghost use Rattle.text.specs.Lines.{lines, successor};
+ghost use Rattle.lexer.specs.Lines.{lines, successor};
 ghost use Rattle.text.specs.Reading.{BadLine, Comes};
 ghost use Rattle.text.specs.declared.fault.GraphFault.the-variants.{Line as InLine};
 ghost use lib.ListN.{length};
@@ -12,12 +13,12 @@ ghost use mathlib.Core.Path.{_≡_};
 use crate::declaration::Declaration;
 use crate::fault::LineFault;
 use crate::fault::LineFaultFromByteFault;
-use crate::lines::Line;
-use crate::lines::Lines;
-use crate::numbers::value;
-use crate::words::Word;
-use crate::words::Words;
 use graph::kind::Kind;
+use lexer::lines::Line;
+use lexer::lines::Lines;
+use lexer::numbers::number;
+use lexer::words::Word;
+use lexer::words::Words;
 
 /// A declaration, and the number of its line.
 #[derive(Clone, Copy)]
@@ -37,7 +38,7 @@ fn field(words: &mut Words) -> Option<u16>
         (λ n. (n < 1000) × (now (now (words .entry) .rest) ≡ field n ++ now (now (words .exit) .rest)) × Stop (now (now (words .exit) .rest))) ⌝ }
 {
     match words.next_word()? {
-        Word::Number { digits, .. } => Some(value(digits)),
+        Word::Number { digits, .. } => number(digits),
         Word::Other { .. } => None,
         Word::Letter { .. } => None,
     }
@@ -48,7 +49,7 @@ fn last_field(words: &mut Words) -> Option<u16>
     ensures { λ r. ⌜ BySome r (NoLast (now (now (words .entry) .rest))) (λ n. (n < 1000) × (now (now (words .entry) .rest) ≡ field n)) ⌝ }
 {
     let n = field(words)?;
-    if !words.rest.is_empty() {
+    if !words.is_empty() {
         return None;
     }
     Some(n)
@@ -132,15 +133,18 @@ impl<'a> Entries<'a> {
     pub fn next_entry(&mut self) -> Result<Option<Entry>, LineFault>
         ensures { λ r. ⌜ Cases r
             (λ o. BySome o (lines (now (now (self .entry) .lines .rest)) ≡ [])
-                (λ e. Comes (now (now (self .entry) .lines .rest)) (written (e .declaration)) (now (now (self .exit) .lines .rest))
-                    × Fits (e .declaration) × (e .line ≡ successor (now (self .entry) .lines .number)) × (now (self .exit) .lines .number ≡ e .line)))
+            (λ e. Comes (now (now (self .entry) .lines .rest)) (written (e .declaration)) (now (now (self .exit) .lines .rest))
+            × Fits (e .declaration) × (e .line ≡ successor (now (self .entry) .lines .number)) × (now (self .exit) .lines .number ≡ e .line)))
             (λ f. ((l : List ℕ) × (rest : List ℕ) × Comes (now (now (self .entry) .lines .rest)) l rest
-                × BadLine l (successor (now (self .entry) .lines .number)) (told (InLine f)))) ⌝ }
+            × BadLine l (successor (now (self .entry) .lines .number)) (told (InLine f)))) ⌝ }
     {
         let Some(line) = self.lines.next_line() else {
             return Ok(None);
         };
         let declaration = parse(line)?;
-        Ok(Some(Entry { line: line.number, declaration }))
+        Ok(Some(Entry {
+            line: line.number,
+            declaration,
+        }))
     }
 }

@@ -10,6 +10,7 @@ returns-in-Ok c = ap declarations (c .in-Ok .ensures tt .1) ∙ relation-declare
 
 pub returns-in-Err : need.returns-in-Err
 returns-in-Err c =
-    let is = relation-breaks (held (c .args .draft .now)) (c .args .kind) (c .args .from) (c .args .to) ∙ ap numberOf (c .in-Err .ensures tt .0) in
-    ( subst (λ n. 0 < n) (sym is) (told-more (c .in-Err .error))
-    , c .located .ensures ∙ (λ i. record { number = sym is i; layer = 3; line = c .args .line }) )
+    let is = relation-breaks (held (c .args .draft .now)) (c .args .kind) (c .args .from) (c .args .to) ∙ ap numberOf (c .in-Err .ensures tt .0) in (
+      subst (λ n. 0 < n) (sym is) (told-more (c .in-Err .error)),
+      c .located .ensures ∙ (λ i. record { number = sym is i; layer = 3; line = c .args .line }),
+    )

@@ -6,5 +6,5 @@ returns c =
     record {
       outcome = c .build .ensures;
       exact = exact (c .args .text .now) (c .build .result) (c .build .ensures);
-      single = single (c .args .text .now) (c .build .result) (c .build .ensures)
+      single = single (c .args .text .now) (c .build .result) (c .build .ensures);
     }

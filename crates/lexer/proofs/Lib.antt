@@ -1,0 +1,4 @@
+pub mod Cuts
+pub mod LineLaw
+pub mod Numerals
+pub mod Standing

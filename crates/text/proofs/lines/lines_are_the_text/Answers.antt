@@ -1,5 +1,0 @@
-use Rattle.text.proofs.LineLaw.{lines-stand, only-lines}
-use Rattle.text.proofs.lines.lines_are_the_text.Needs as need
-
-pub returns : need.returns
-returns c = record { made = lines-stand; only = only-lines }
