@@ -1,7 +1,8 @@
-use crate::explain::meaning;
+use crate::command::USAGE;
+use crate::explain::rule;
 use crate::input::text_of;
-use graph::graph::Graph;
-use graph::release::Release;
+use crate::verdict::fault_line;
+use crate::verdict::ok_line;
 use lexer::lines::line_at;
 use std::alloc::AllocError;
 use std::alloc::Global;
@@ -17,12 +18,16 @@ pub fn run(rt: &LibcRuntime, path: &str) -> Result<(), AnyError> {
     let text = match text_of(rt, path) {
         Ok(text) => text,
         Err(error) => {
-            eprintln!(rt, "fompaqi: cannot read '{path}': {error}")?;
+            eprintln!(rt, "fompaqi: check: cannot read the file '{path}': {error}")?;
+            rt.eprintln(USAGE)?;
             return Err("no text".into());
         }
     };
     match read(text.as_slice()) {
-        Ok(graph) => print_graph(rt, &graph),
+        Ok(graph) => {
+            rt.println(ok_line(rt.alloc(), &graph)?)?;
+            Ok(())
+        }
         Err(fault) => {
             print_fault(rt, fault, text.as_slice())?;
             Err("a fault".into())
@@ -30,30 +35,17 @@ pub fn run(rt: &LibcRuntime, path: &str) -> Result<(), AnyError> {
     }
 }
 
-fn print_graph(rt: &LibcRuntime, graph: &Graph) -> Result<(), AnyError> {
-    let stations = graph.stations();
-    let release = graph.release().number();
-    let events = graph.events().len();
-    let relations = graph.relations().len();
-    println!(
-        rt,
-        "ok: {stations} stations, release {release}, {events} events, {relations} relations"
-    )?;
-    Ok(())
-}
-
 fn print_fault(rt: &LibcRuntime, fault: GraphFault, text: &[u8]) -> Result<(), AnyError> {
     let report = fault.report();
-    let (number, layer, line) = (report.number, report.layer, report.line);
-    println!(rt, "fault {number}, layer {layer}, line {line}")?;
-    match line_at(text, line) {
-        Some(bytes) => {
-            let rule = meaning(report, bytes.first().copied());
+    rt.println(fault_line(rt.alloc(), report)?)?;
+    match line_at(text, report.line) {
+        Some(bytes) if !bytes.is_empty() => {
+            let rule = rule(report, bytes.first().copied());
             let shown = printable(rt.alloc(), bytes)?;
-            println!(rt, "{rule}; the line is: {shown}")?;
+            println!(rt, "{rule}: {shown}")?;
         }
-        None => {
-            let rule = meaning(report, None);
+        _ => {
+            let rule = rule(report, None);
             println!(rt, "{rule}")?;
         }
     }

@@ -1,5 +1,13 @@
 use std::fmt;
 
+pub const USAGE: &str = "usage: fompaqi check GRAPH
+
+  check GRAPH   read the graph text in the file GRAPH and say whether it is in order
+
+The first line printed is 'ok: S stations, release R, E events, N relations', or
+'fault N, layer L, line K' with a second line that says what is wrong there.
+The exit status is 0 for ok, and 1 for a fault or an error.";
+
 /// What the user asks for.
 #[derive(Drop)]
 pub enum Command {
