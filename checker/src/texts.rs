@@ -46,6 +46,30 @@ impl Source {
         text
     }
 
+    /// A text that is in order.
+    pub fn whole_text(&mut self) -> String {
+        loop {
+            let text = self.lines().join("\n") + "\n";
+            if crate::reader::verdict(text.as_bytes()).starts_with("ok") {
+                return text;
+            }
+        }
+    }
+
+    /// Calls of a table whose graph has so many events.
+    pub fn table_script(&mut self, events: usize) -> Vec<String> {
+        let calls = 1 + self.below(40);
+        let mut script = Vec::new();
+        for _ in 0..calls {
+            script.push(match self.below(6) {
+                0 => "w".to_string(),
+                1 if self.one_in(4) => format!("q {}", self.below(256)),
+                _ => format!("q {}", self.below(events)),
+            });
+        }
+        script
+    }
+
     /// The lines of a text that is mostly in order.
     fn lines(&mut self) -> Vec<String> {
         let stations = 1 + self.below(8);

@@ -1,5 +1,5 @@
-use crate::command::USAGE;
 use crate::explain::rule;
+use crate::input::GRAPH_BYTES;
 use crate::input::text_of;
 use crate::verdict::fault_line;
 use crate::verdict::ok_line;
@@ -15,14 +15,7 @@ const SHOWN: usize = 120;
 
 /// Reads the graph text in the file and prints what it declares, or its fault.
 pub fn run(rt: &LibcRuntime, path: &str) -> Result<(), AnyError> {
-    let text = match text_of(rt, path) {
-        Ok(text) => text,
-        Err(error) => {
-            eprintln!(rt, "fompaqi: check: cannot read the file '{path}': {error}")?;
-            rt.eprintln(USAGE)?;
-            return Err("no text".into());
-        }
-    };
+    let text = text_of(rt, path, GRAPH_BYTES)?;
     match read(text.as_slice()) {
         Ok(graph) => {
             rt.println(ok_line(rt.alloc(), &graph)?)?;
@@ -41,8 +34,8 @@ fn print_fault(rt: &LibcRuntime, fault: GraphFault, text: &[u8]) -> Result<(), A
     match line_at(text, report.line) {
         Some(bytes) if !bytes.is_empty() => {
             let rule = rule(report, bytes.first().copied());
-            let shown = printable(rt.alloc(), bytes)?;
-            println!(rt, "{rule}: {shown}")?;
+            let line = shown(rt.alloc(), bytes)?;
+            println!(rt, "{rule}: {line}")?;
         }
         _ => {
             let rule = rule(report, None);
@@ -53,18 +46,18 @@ fn print_fault(rt: &LibcRuntime, fault: GraphFault, text: &[u8]) -> Result<(), A
 }
 
 /// The line as it can be shown: a byte that is not printable as a question mark, and not all of a long line.
-fn printable(heap: Global, bytes: &[u8]) -> Result<String, AllocError> {
-    let mut shown = String::new(heap);
+pub fn shown(heap: Global, bytes: &[u8]) -> Result<String, AllocError> {
+    let mut text = String::new(heap);
     for byte in bytes.iter().copied().take(SHOWN) {
         let c = if b' ' <= byte && byte <= b'~' {
             byte as char
         } else {
             '?'
         };
-        shown.push(c)?;
+        text.push(c)?;
     }
     if bytes.len() > SHOWN {
-        shown.push_str(" ...")?;
+        text.push_str(" ...")?;
     }
-    Ok(shown)
+    Ok(text)
 }

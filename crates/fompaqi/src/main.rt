@@ -3,6 +3,9 @@ mod check;
 mod command;
 mod explain;
 mod input;
+mod lists;
+mod script;
+mod table;
 mod verdict;
 
 use command::Command;
@@ -13,15 +16,13 @@ use std::error::AnyError;
 fn main(rt: LibcRuntime) -> Result<(), AnyError> {
     let mut words = env::args(&rt)?;
     let _program = words.next();
-    let name = words.next();
-    let argument = words.next();
-    let surplus = words.next();
-    match command::of(name, argument, surplus) {
+    match command::of(&mut words) {
         Ok(Command::Help) => {
             rt.println(command::USAGE)?;
             Ok(())
         }
-        Ok(Command::Check(path)) => check::run(&rt, path.as_str()),
+        Ok(Command::Check(graph)) => check::run(&rt, graph.as_str()),
+        Ok(Command::Table(graph, script)) => table::run(&rt, graph.as_str(), script.as_str()),
         Err(error) => {
             rt.eprintln(error)?;
             rt.eprintln(command::USAGE)?;

@@ -31,7 +31,18 @@ pub struct Lines<'a> {
 }
 
 impl<'a> Lines<'a> {
-    /// The lines of the text, or a fault where it is too long.
+    /// The lines of the text, however long it is.
+    pub fn new(text: &'a [u8]) -> Lines<'a>
+        ensures { λ r. ⌜ (now (r .rest) ≡ now (text .entry)) × (r .at ≡ 0) × (r .number ≡ 0) ⌝ }
+    {
+        Lines {
+            rest: text,
+            at: 0,
+            number: 0,
+        }
+    }
+
+    /// The lines of a graph text, or a fault where it is too long.
     pub fn of(text: &'a [u8]) -> Result<Lines<'a>, ByteFault>
         ensures { λ r. ⌜ Cases r
             (λ l. (length (now (text .entry)) ≤ 65536) × (now (l .rest) ≡ now (text .entry)) × (l .at ≡ 0) × (l .number ≡ 0))
@@ -40,11 +51,7 @@ impl<'a> Lines<'a> {
         if text.len() > LONGEST {
             return Err(ByteFault::TooLong);
         }
-        Ok(Lines {
-            rest: text,
-            at: 0,
-            number: 0,
-        })
+        Ok(Lines::new(text))
     }
 
     /// The next line, if there is one.
@@ -79,11 +86,7 @@ pub fn line_at(text: &[u8], number: usize) -> Option<&[u8]>
     ensures { λ r. ⌜ BySome r (0 < number → length (lines (now (text .entry))) < number)
         (λ l. (0 < number) × (number ≤ length (lines (now (text .entry)))) × (now l ≡ getD (lines (now (text .entry))) (number - 1) [])) ⌝ }
 {
-    let mut rest = Lines {
-        rest: text,
-        at: 0,
-        number: 0,
-    };
+    let mut rest = Lines::new(text);
     while let Some(line) = rest.next_line() {
         if line.number == number {
             return Some(line.bytes);
