@@ -33,6 +33,9 @@ is-false b = (not-true b, not-from-false b)
 flat : {P Q R : Type 0} (b : Bool) → Decides b (P × (Q × R)) → Decides b (P × Q × R)
 flat b d = (λ t. let h = d .0 t in (h .0, h .1 .0, h .1 .1), λ h. d .1 (h .0, (h .1, h .2)))
 
+named-tells : (n e k : ℕ) → e < n → Decides (named n e k) (k ≡ e)
+named-tells n e k l = (λ t. grind (arith, tells), λ q. grind (arith, tells))
+
 nothing-passes : (p : ℕ → Bool) (P : ℕ → Type 0) (n : ℕ) → ((a : ℕ) → Decides (p a) (P a)) → ((a : ℕ) → p a ≡ true → a < n) → Tells p n None → None-of P
 nothing-passes p P n d w h a x = let t = d a .1 x in both-ways _ (h a (w a t)) t
 
@@ -40,9 +43,6 @@ lowest-passes : (p : ℕ → Bool) (P : ℕ → Type 0) (n k : ℕ) → ((a : �
 lowest-passes p P n k d h = (d k .0 (h .0), λ j l x. both-ways _ (h .2 j l) (d j .1 x))
 
 module _ (rel : Relations) (L : Links) (telling : Telling rel L) where
-  named-tells : (n e k : ℕ) → e < n → Decides (named n e k) (k ≡ e)
-  named-tells n e k l = (λ t. grind (arith, tells), λ q. grind (arith, tells))
-
   locks-tells : (n e k : ℕ) → e < n → Decides (locked rel n e k) (Locks L e k)
   locks-tells n e k l =
       decides-or _ _

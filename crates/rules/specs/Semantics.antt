@@ -23,6 +23,7 @@ use Rattle.rules.specs.declared.decision.Decision.the-variants.{Accepted, Excl
 abbrev pub Relations : Type 0
 Relations = Kind → ℕ → ℕ → Bool
 
+-- the lowest number so far, or else n if it passes
 abbrev pub lowestStep : Option ℕ → Bool → ℕ → Option ℕ
 lowestStep (Some k) b n = Some k
 lowestStep None true n = Some n

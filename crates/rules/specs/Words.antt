@@ -38,9 +38,11 @@ UnmetCondition L e M a = L Condition a e × (M a .included ≡ true) × (M a .ex
 abbrev pub HoldingMilestone : Links → ℕ → (ℕ → Marks) → ℕ → Type 0
 HoldingMilestone L e M a = L Milestone a e × (M a .included ≡ true) × (M a .pending ≡ true)
 
+-- no event is such
 abbrev pub None-of : (ℕ → Type 0) → Type 0
 None-of P = (a : ℕ) → P a → ⊥
 
+-- k is the lowest such event
 abbrev pub Lowest-of : (ℕ → Type 0) → ℕ → Type 0
 Lowest-of P k = P k × ((j : ℕ) → j < k → P j → ⊥)
 
