@@ -4,10 +4,9 @@ use mathlib.Core.Bool.{Bool, true, false, cond, not}
 use mathlib.Core.List.{List, [], _∷_, _++_, map, append-assoc, append-nil}
 use Prim.Native.Nat.{ℕ, suc, _+_, _<_}
 use native.Mathlib.Omega.{arith}
-use lib.Dec.{ltb}
 use lib.ListN.{length}
 use Rattle.std.proofs.shelf.Lists.{map-push, nil-from-length}
-use Rattle.std.proofs.shelf.Tests.{and-parts, cond-false, eqb-true}
+use Rattle.std.proofs.shelf.Tests.{and-parts, eqb-true}
 use Rattle.std.specs.declared.option.Option.{Option}
 use Rattle.std.specs.declared.option.Option.the-variants.{Some, None}
 use Rattle.events.specs.Marks.{sumOf}
@@ -54,20 +53,11 @@ told-more Full = omega arith
 told-more Invalid = omega arith
 told-more Conflict = omega arith
 
-event-cases : (full fits : Bool) → cond full 6 (cond (not fits) 3 0) ≡ numberOf (cond full (Some Full) (cond fits None (Some Invalid)))
-event-cases true true = refl
-event-cases true false = refl
-event-cases false true = refl
-event-cases false false = refl
-
 relation-cases : (full fits met : Bool) → cond full 6 (cond (not fits) 3 (cond met 5 0)) ≡ numberOf (cond full (Some Full) (cond fits (cond met (Some Conflict) None) (Some Invalid)))
 relation-cases true fits met = refl
 relation-cases false true true = refl
 relation-cases false true false = refl
 relation-cases false false met = refl
-
-pub event-breaks : (c : Content) (k o m : ℕ) → ltb 0 (length (c .relations)) ≡ false → breaks (Some c) (Event k o m) ≡ numberOf (eventError c k o m)
-event-breaks c k o m first = cond-false _ _ _ first ∙ event-cases (fullOfEvents c) (fitsEvent c k o m)
 
 pub relation-breaks : (c : Content) (kind : Kind) (a b : ℕ) → breaks (Some c) (Relation kind a b) ≡ numberOf (relationError c kind a b)
 relation-breaks c kind a b = relation-cases (fullOfRelations c) (fitsRelation c kind a b) (clashing (c .relations) kind a b)

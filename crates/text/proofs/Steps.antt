@@ -25,10 +25,6 @@ pub record Reached (text : List ℕ) (before : Option Content) (rest : List ℕ)
   pub count : n ≡ length (declared before)
   pub room : n + length rest ≤ length text
 
-pub reached-none : (text rest : List ℕ) (n : ℕ) → length text ≤ 65536 → rest ≡ text → n ≡ 0 → Reached text None rest n
-reached-none text rest n short same zero =
-    record { short = short; sound = tt; seen = ap lines (sym same); count = zero; room = omega (arith, ap length same) }
-
 module _ {text : List ℕ} {before : Option Content} {rest : List ℕ} {n : ℕ} (s : Reached text before rest n) where
   module _ (l tail : List ℕ) (next : Comes rest l tail) where
     counted : successor n ≡ length (declared before) + 1
