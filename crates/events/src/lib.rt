@@ -1,6 +1,8 @@
 //! Sets of events and of stations as the bits of a word, and the marking of events by such sets.
 //!
 //! Every function takes every number: an event or a station past the word is in no set.
+#![tactic(auto)]
+
 mod byte;
 mod event_set;
 mod marking;

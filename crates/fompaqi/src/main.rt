@@ -1,4 +1,6 @@
 //! The parts case engine on the command line.
+#![tactic(auto)]
+
 mod check;
 mod command;
 mod explain;

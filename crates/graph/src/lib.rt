@@ -1,4 +1,6 @@
 //! The graph of a parts case: stations, events with owner and start marks, and relations.
+#![tactic(auto)]
+
 pub mod build;
 pub mod draft;
 pub mod error;

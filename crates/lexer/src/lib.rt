@@ -1,4 +1,6 @@
 //! The lines and the words of a text: the first layer of the reader.
+#![tactic(auto)]
+
 mod bytes;
 pub mod fault;
 pub mod lines;

@@ -1,4 +1,6 @@
 //! Plays one list of calls on both lines, and prints what they answer and the bytes of the spool.
+#![tactic(auto)]
+
 mod script;
 mod show;
 

@@ -1,4 +1,6 @@
 //! Rules over a graph: what a rule means and its laws, and the rules of releases 4 and 6.
+#![tactic(auto)]
+
 mod compiled;
 pub mod decision;
 mod masks;

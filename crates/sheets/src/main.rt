@@ -1,4 +1,6 @@
 //! Prints every worked case: its title, and a line for each call.
+#![tactic(auto)]
+
 mod cases;
 mod play;
 

@@ -1,4 +1,6 @@
 //! A site: stations over any rule and any line and all its calls.
+#![tactic(auto)]
+
 mod carries;
 mod lists;
 mod pairs;

@@ -1,3 +1,5 @@
 //! The spool: a line over bytes that the caller lends.
+#![tactic(auto)]
+
 mod slot;
 pub mod spool;

@@ -1,4 +1,6 @@
 //! Copies a word out of a text before the text's bytes are overwritten.
+#![tactic(auto)]
+
 use lexer::lines::Lines;
 use lexer::words::Words;
 use std::alloc::Global;

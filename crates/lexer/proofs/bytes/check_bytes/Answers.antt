@@ -6,7 +6,7 @@ pub returns-then-not-is-printable : goal.returns-then-not-is-printable
 returns-then-not-is-printable c = (refl, clean-stop c.args.bytes.now c.loop-byte.byte-index c.loop-byte.invariant (omega arith) c.if-not-is-printable.ensures)
 
 pub loop-byte-preserved : goal.loop-byte-preserved
-loop-byte-preserved c = clean-more c.args.bytes.now c.loop-byte.byte-index c.loop-byte.invariant (omega arith) c.if-not-is-printable.ensures
+loop-byte-preserved c = clean-more c.args.bytes.now c.loop-byte.byte-index c.loop-byte.invariant (omega arith) c.if-not-is_printable.ensures
 
 pub returns : goal.returns
 returns c = clean_all c.args.bytes.now c.loop-byte.byte-index c.loop-byte.invariant (omega arith)

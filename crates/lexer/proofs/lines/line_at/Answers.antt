@@ -6,7 +6,7 @@ use Rattle.lexer.proofs.lines.line_at.Goals as goal
 use Rattle.lexer.proofs.lines.line_at.Goals.{In-Some}
 
 module _ (c : In-Some) where
-  told : (c.in-Some.line.number ≡ c.loop-line.rest.number + 1) × (c.next-line.new.self.number ≡ c.in-Some.line.number)
+  told : (c.in-Some.line.number ≡ c.loop-line.rest.number + 1) × (c.next_line.new.self.number ≡ c.in-Some.line.number)
   told =
       let t = c.in-Some.ensures in
       let room = c.loop-line.invariant.1 in
@@ -37,5 +37,5 @@ loop-line-preserved c =
 pub returns : goal.returns
 returns c some =
     let below = c.loop-line.invariant.2 some in
-    let none = c.in-default.ensures.line in
+    let none = c.in_default.ensures.line in
     omega (arith, ap length (sym c.loop-line.invariant.0 ∙ none), length-drop c.loop-line.rest.number (lines c.args.text.now))

@@ -34,10 +34,10 @@ returns c =
     let rest : between n (length text) text ≡ drop n text = between_to_end text n (length text) (omega arith) in
     record {
       line = (more, subst (λ l. length l < length text) (sym rest) (omega (arith, length-drop n text)));
-      number = (c.saturating-add.ensures, refl);
+      number = (c.saturating_add.ensures, refl);
       place = λ whole short h.
           let at = c.args.self.now.at in (
             subst (StandAt whole at) (sym (front text e first)) (stand-split whole at text e _ first.within short refl h).0,
-            subst (StandAt whole _) (sym rest) (stand-split whole at text n _ on.1 short c.saturating-add-self.ensures h).1,
+            subst (StandAt whole _) (sym rest) (stand-split whole at text n _ on.1 short c.saturating_add-self.ensures h).1,
           );
     }

@@ -14,5 +14,5 @@ returns c =
       word = is;
       place = λ text short h.
           let on = subst (StandAt text at) is h in
-          (stand-take text at (get_or line 0 0 ∷ []) (between 1 (length line) line) on, stand-next text at (get_or line 0 0 ∷ []) (between 1 (length line) line) _ short c.saturating-add-self.ensures on);
+          (stand-take text at (get_or line 0 0 ∷ []) (between 1 (length line) line) on, stand-next text at (get_or line 0 0 ∷ []) (between 1 (length line) line) _ short c.saturating_add-self.ensures on);
     }
