@@ -33,30 +33,18 @@ module _ (rs : List Relation) (n : ℕ) (r : Relation) (room : n < length rs) wh
 
 -- a draft of n zero events and no relation keeps what a draft keeps
 pub fresh-draft : (stations : ℕ) (release : Release) (n : ℕ) → 0 < stations → stations ≤ 8 → n ≤ 64 →
-    ((0 < stations) × (stations ≤ 8) × (n ≤ 64) × (0 ≤ 512)) × (OwnersIn stations (take n (replicate 64 bare)) × (EndsIn n (take 0 (replicate 512 blank)) × (Apart (take 0 (replicate 512 blank)) × (NoMilestone release (take 0 (replicate 512 blank)) × (BarePast (replicate 64 bare) n × (BlankPast (replicate 512 blank) 0 × (((length (replicate 64 bare) ≡ 64) × (length (replicate 512 blank) ≡ 512)) × Unit {0})))))))
+    ((0 < stations) × (stations ≤ 8) × (n ≤ 64) × (0 ≤ 512)) × OwnersIn stations (take n (replicate 64 bare)) × EndsIn n (take 0 (replicate 512 blank)) × Apart (take 0 (replicate 512 blank)) × NoMilestone release (take 0 (replicate 512 blank)) × BarePast (replicate 64 bare) n × BlankPast (replicate 512 blank) 0 × ((length (replicate 64 bare) ≡ 64) × (length (replicate 512 blank) ≡ 512))
 fresh-draft stations release n some few fits = (
   (some, few, fits, omega arith),
-  (
-    (λ i h.
-        let l : i < n = subst (λ k. i < k) (length-take-le n (replicate 64 bare) (subst (λ k. n ≤ k) (sym (length-replicate 64 bare)) fits)) h in
-        subst (λ x. x.owner < stations) (sym (get_or-take n (replicate 64 bare) i bare l ∙ fresh bare 64 i)) some),
-    (
-      (λ i h. absurd (omega arith)),
-      (
-        (λ i j h k e. omega arith),
-        (
-          (λ e i h k. omega arith),
-          (
-            (λ i h. fresh bare 64 i),
-            (
-              (λ i h. fresh blank 512 i),
-              ((length-replicate 64 bare, length-replicate 512 blank), tt),
-            ),
-          ),
-        ),
-      ),
-    ),
-  ),
+  (λ i h.
+      let l : i < n = subst (λ k. i < k) (length-take-le n (replicate 64 bare) (subst (λ k. n ≤ k) (sym (length-replicate 64 bare)) fits)) h in
+      subst (λ x. x.owner < stations) (sym (get_or-take n (replicate 64 bare) i bare l ∙ fresh bare 64 i)) some),
+  (λ i h. absurd (omega arith)),
+  (λ i j h k e. omega arith),
+  (λ e i h k. omega arith),
+  (λ i h. fresh bare 64 i),
+  (λ i h. fresh blank 512 i),
+  (length-replicate 64 bare, length-replicate 512 blank),
 )
 
 -- an event, a relation that is not refused

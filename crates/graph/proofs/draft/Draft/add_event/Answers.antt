@@ -8,31 +8,10 @@ use Rattle.graph.proofs.Tables.{past}
 use Rattle.graph.specs.Content.{bare}
 use Rattle.graph.proofs.draft.Draft.add_event.Goals as goal
 
-pub invariant-of-self : goal.invariant-of-self
-invariant-of-self c =
+pub invariant_of-self : goal.invariant_of-self
+invariant_of-self c =
     let d = c.args.self.now in
-    let s = d.sized in (
-      (s.0, s.1, omega arith, s.3),
-      (
-        owners-more d.rows d.events _ (omega arith) d.stations (omega arith) d.owners,
-        (
-          (λ i h. let e = d.ends i h in (omega arith, omega arith)),
-          (
-            d.apart,
-            (
-              d.milestones,
-              (
-                past bare _ _ _ d.bare,
-                (
-                  d.blank,
-                  ((length-set _ _ _ ∙ d.long.0, d.long.1), tt),
-                ),
-              ),
-            ),
-          ),
-        ),
-      ),
-    )
+    let s = d.sized in record { sized = (s.0, s.1, omega arith, s.3); owners = owners-more d.rows d.events _ (omega arith) d.stations (omega arith) d.owners; ends = (λ i h. let e = d.ends i h in (omega arith, omega arith)); apart = d.apart; milestones = d.milestones; bare = past bare _ _ _ d.bare; blank = d.blank; long = (length-set _ _ _ ∙ d.long.0, d.long.1) }
 
 pub returns : goal.returns
 returns c =

@@ -8,31 +8,10 @@ use Rattle.graph.proofs.Drafts.{apart_more, ends_more, milestones-more, relation
 use Rattle.graph.proofs.Tables.{past}
 use Rattle.graph.proofs.draft.Draft.add_relation.Goals as goal
 
-pub invariant-of-self : goal.invariant-of-self
-invariant-of-self c =
+pub invariant_of-self : goal.invariant_of-self
+invariant_of-self c =
     let d = c.args.self.now in
-    let s = d.sized in (
-      (s.0, s.1, s.2, omega arith),
-      (
-        d.owners,
-        (
-          ends_more d.table d.relations _ (omega arith) d.events (omega arith) (omega arith) d.ends,
-          (
-            apart_more d.table d.relations _ (omega arith) (sym c.if-conflicts.ensures) d.apart,
-            (
-              milestones-more d.table d.relations _ (omega arith) d.release (not-true _ (sym c.if-not-allows.ensures)) d.milestones,
-              (
-                d.bare,
-                (
-                  past blank _ _ _ d.blank,
-                  ((d.long.0, length-set _ _ _ ∙ d.long.1), tt),
-                ),
-              ),
-            ),
-          ),
-        ),
-      ),
-    )
+    let s = d.sized in record { sized = (s.0, s.1, s.2, omega arith); owners = d.owners; ends = ends_more d.table d.relations _ (omega arith) d.events (omega arith) (omega arith) d.ends; apart = apart_more d.table d.relations _ (omega arith) (sym c.if-conflicts.ensures) d.apart; milestones = milestones-more d.table d.relations _ (omega arith) d.release (not-true _ (sym c.if-not-allows.ensures)) d.milestones; bare = d.bare; blank = past blank _ _ _ d.blank; long = (d.long.0, length-set _ _ _ ∙ d.long.1) }
 
 pub returns : goal.returns
 returns c =

@@ -9,8 +9,8 @@ use Rattle.lexer.proofs.Standing.{stand-split}
 use Rattle.lexer.proofs.lines.Lines.next_line.Goals as goal
 use Rattle.lexer.proofs.lines.Lines.next_line.Goals.{then-end-text, else-end-text}
 
-pub returns-then-is-empty : goal.returns-then-is-empty
-returns-then-is-empty c =
+pub returns-then-is_empty : goal.returns-then-is_empty
+returns-then-is_empty c =
     let none : length c.args.self.now.rest.now ≡ 0 = search rules in
     record { line = ap lines (nil_from_length c.args.self.now.rest.now none); number = tt; place = λ text short h. tt }
 
