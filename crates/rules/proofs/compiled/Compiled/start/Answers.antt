@@ -9,7 +9,7 @@ pub loop-i-preserved : goal.loop-i-preserved
 loop-i-preserved c k =
     let few = (sound c.args.self.now.graph.draft).few_events in
     let long = ap length c.events-events.ensures in
-    one-more-marked c.events-events.result.now c.loop-i.i k _ _ (omega arith) (c.loop-i.invariant k) (c.with-marks-start.ensures k)
+    one-more-marked c.events-events.result.now c.loop-i.i k _ _ (omega arith) (c.loop-i.invariant k) (c.with_marks-start.ensures k)
 
 pub returns : goal.returns
 returns c k =
