@@ -12,7 +12,7 @@ pub returns-in-Some : goal.returns-in-Some
 unfolding reads
 returns-in-Some c =
     let h = c.in-Some.ensures in
-    let e = of_sum c.args.message.extra c.in-Some.marks h.0 h.1 in
+    let e = of-sum c.args.message.extra c.in-Some.marks h.0 h.1 in
     grind (arith, nat_tests)
 
 pub returns-in-None : goal.returns-in-None
@@ -27,10 +27,10 @@ pub returns-in_default : goal.returns-in_default
 unfolding reads
 returns-in_default c = grind (arith, nat_tests)
 
-pub returns-in_default·2 : goal.returns-in_default·2
+pub returns-in_default-2 : goal.returns-in_default-2
 unfolding reads
-returns-in_default·2 c = grind (arith, nat_tests)
+returns-in_default-2 c = grind (arith, nat_tests)
 
-pub returns-in_default·3 : goal.returns-in_default·3
+pub returns-in_default-3 : goal.returns-in_default-3
 unfolding reads
-returns-in_default·3 c = grind (arith, nat_tests)
+returns-in_default-3 c = grind (arith, nat_tests)

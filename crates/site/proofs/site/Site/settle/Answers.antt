@@ -49,11 +49,11 @@ returns-in-default-transfer g c =
       settles = ends g (goal.at.returns-in-default-transfer g c).After-transfer c.in-default-transfer.not-Carried (λ v e. c.if-answers-lt8.false);
     }
 
-pub returns-in-default-transfer·2 : goal.returns-in-default-transfer·2
-returns-in-default-transfer·2 g c =
+pub returns-in-default-transfer-2 : goal.returns-in-default-transfer-2
+returns-in-default-transfer-2 g c =
     let none : (v : Answer) → c.transfer.result ≡ Answered v → ⊥ = λ v e. search rules in
     record {
       rule = c.transfer.ensures.rule ∙ c.loop-messages.invariant.2;
       sound = c.transfer.ensures.sound;
-      settles = ends g (goal.at.returns-in-default-transfer·2 g c).After-transfer c.in-default-transfer.not-Carried (λ v e. absurd (none v e));
+      settles = ends g (goal.at.returns-in-default-transfer-2 g c).After-transfer c.in-default-transfer.not-Carried (λ v e. absurd (none v e));
     }
