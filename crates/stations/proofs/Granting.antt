@@ -30,8 +30,8 @@ or_put true false = refl
 or_put false true = refl
 or_put false false = refl
 
-pub goes_on : (R : Meaning) (b : ℕ) (s : Station) (e : ℕ) (had had' : EventSet) (seen seen' : Marking) (a f : ℕ) (x : Marks) (note : Note) (o : Option ℕ) → R.events ≤ 64 → s.state ≡ Asking e had seen → note ≡ Grant f x → (is (missing R e (member had.bits)) f && eqb (R.owner f) a) ≡ true → ((k : ℕ) → member had'.bits k ≡ cond (named 64 f k) true (member had.bits k)) → ((k : ℕ) → marks seen' k ≡ cond (named 64 f k) x (marks seen k)) → o ≡ missing R e (member had'.bits) → step R b (shows s) a note ≡ goes_on R (shows s) e (member had'.bits) (marks seen') o
-goes_on R b s e had had' seen seen' a f x note o few asks grants due had-is seen-is next-is =
+pub grant-goes_on : (R : Meaning) (b : ℕ) (s : Station) (e : ℕ) (had had' : EventSet) (seen seen' : Marking) (a f : ℕ) (x : Marks) (note : Note) (o : Option ℕ) → R.events ≤ 64 → s.state ≡ Asking e had seen → note ≡ Grant f x → (is (missing R e (member had.bits)) f && eqb (R.owner f) a) ≡ true → ((k : ℕ) → member had'.bits k ≡ cond (named 64 f k) true (member had.bits k)) → ((k : ℕ) → marks seen' k ≡ cond (named 64 f k) x (marks seen k)) → o ≡ missing R e (member had'.bits) → step R b (shows s) a note ≡ goes_on R (shows s) e (member had'.bits) (marks seen') o
+grant-goes_on R b s e had had' seen seen' a f x note o few asks grants due had-is seen-is next-is =
     let S = shows s in
     let below = is_below _ R.events f _ (lowest-tells _ R.events) (and_parts _ _ due).0 in
     let small : f < 64 = omega arith in

@@ -13,6 +13,6 @@ parts (x ∷ rest) d some = ap (λ l. codes ": " ++ (answer_text x ++ flat_map n
 pub returns : goal.returns
 returns c =
     let some : 0 < length c.args.answers.now = search rules in
-    let first = c.in-ok-first.ensures in
-    let rest = c.in-ok-rest.ensures in
+    let first = c.in_ok-first.ensures in
+    let rest = c.in_ok-rest.ensures in
     subst (λ l. IfOk c.format.result (λ s. string_bytes s ≡ l)) ((λ i. codes ": " ++ (first i ++ rest i)) ∙ parts c.args.answers.now _ some) c.format.ensures.ok

@@ -13,9 +13,9 @@ more xs i d text within e =
 
 pub loop-answer-preserved : goal.loop-answer-preserved
 loop-answer-preserved c =
-    let separated = pushed (codes "; ") c.loop-answer.invariant c.in-ok-push-str.was c.push-str.ensures.bytes in
-    let added = pushed c.as-str.result.now separated c.in-ok-push-str-2.was c.push-str-in-loop-answer.ensures.bytes in
-    added ∙ more c.args.answers.now c.loop-answer.answer-index _ c.as-str.result.now c.loop-answer-test.true (c.as-str.ensures.value ∙ c.in-ok-further.ensures)
+    let separated = pushed (codes "; ") c.loop-answer.invariant c.in_ok-push_str.was c.push_str.ensures.bytes in
+    let added = pushed c.as_str.result.now separated c.in_ok-push_str-2.was c.push_str-in-loop-answer.ensures.bytes in
+    added ∙ more c.args.answers.now c.loop-answer.answer-index _ c.as_str.result.now c.loop-answer-test.true (c.as_str.ensures.value ∙ c.in_ok-further.ensures)
 
 pub returns : goal.returns
 returns c = c.loop-answer.invariant ∙ ap (flat_map next_text) (take_all c.loop-answer.answer-index c.args.answers.now c.loop-answer-test.false)

@@ -8,7 +8,7 @@ use Rattle.events.specs.Members.{member}
 use Rattle.events.specs.declared.event_set.EventSet.{EventSet}
 use Rattle.reports.specs.Texts.{list_text, members_below, number_text}
 use Rattle.reports.proofs.event_list.events_text.Goals as goal
-use Rattle.reports.proofs.event_list.events_text.Goals.{then-has+in-ok-number+in-ok-push-str, else-has, then-is-empty+in-ok-push-str-2, else-is-empty}
+use Rattle.reports.proofs.event_list.events_text.Goals.{then-has+in_ok-number+in_ok-push_str, else-has, then-is_empty+in_ok-push_str-2, else-is_empty}
 
 -- what is written of the events below e
 abbrev written : EventSet → ℕ → List ℕ
@@ -36,9 +36,9 @@ loop-event-init c = c.new-text.ensures.bytes
 pub loop-event-preserved : goal.loop-event-preserved
 loop-event-preserved c =
     elim c.if-has.branch [
-      | then-has+in-ok-number+in-ok-push-str w ↦
-          let added = pushed w.as-str.result.now c.loop-event.invariant w.in-ok-push-str.was w.push-str.ensures.bytes in
-          ap string_bytes w.text-is ∙ added ∙ with-member c.args.events c.loop-event.event-counter w.as-str.result.now (w.as-str.ensures.value ∙ w.in-ok-number.ensures.ok) (sym c.has.ensures ∙ w.if-has.true)
+      | then-has+in_ok-number+in_ok-push_str w ↦
+          let added = pushed w.as_str.result.now c.loop-event.invariant w.in_ok-push_str.was w.push_str.ensures.bytes in
+          ap string_bytes w.text-is ∙ added ∙ with-member c.args.events c.loop-event.event-counter w.as_str.result.now (w.as_str.ensures.value ∙ w.in_ok-number.ensures.ok) (sym c.has.ensures ∙ w.if-has.true)
       | else-has w ↦
           ap string_bytes w.text-is ∙ c.loop-event.invariant ∙ without-member c.args.events c.loop-event.event-counter (sym c.has.ensures ∙ w.if-has.false)
     ]
@@ -59,12 +59,12 @@ returns c =
     let text = string_bytes c.loop-event.text in
     let all = c.loop-event.invariant ∙ ap (written c.args.events) done in
     let len = c.loop-event.text.bytes.ok.0 in
-    elim c.if-is-empty.branch [
-      | then-is-empty+in-ok-push-str-2 w ↦
-          let empty = eqb-true _ 0 (sym c.is-empty.ensures ∙ w.if-is-empty.true) in
-          let added = pushed (codes " none") refl w.in-ok-push-str-2.was w.push-str-then-is-empty.ensures.bytes in
+    elim c.if-is_empty.branch [
+      | then-is_empty+in_ok-push_str-2 w ↦
+          let empty = eqb-true _ 0 (sym c.is_empty.ensures ∙ w.if-is_empty.true) in
+          let added = pushed (codes " none") refl w.in_ok-push_str-2.was w.push_str-then-is_empty.ensures.bytes in
           ap string_bytes w.text-is ∙ added ∙ when-none members text all (sym len ∙ empty)
-      | else-is-empty w ↦
-          let some = eqb-false _ 0 (sym c.is-empty.ensures ∙ w.if-is-empty.false) in
+      | else-is_empty w ↦
+          let some = eqb-false _ 0 (sym c.is_empty.ensures ∙ w.if-is_empty.false) in
           ap string_bytes w.text-is ∙ when-some members text all (λ h. some (len ∙ h))
     ]

@@ -14,7 +14,7 @@ entries xs k n e = ⊎_elim
 
 pub returns : goal.returns
 returns c =
-    let given = c.in-ok-given.ensures ∙ ap answers_text (entries c.args.table.now c.args.answers c.min.result c.min.ensures) in
+    let given = c.in_ok-given.ensures ∙ ap answers_text (entries c.args.table.now c.args.answers c.min.result c.min.ensures) in
     subst (λ l. IfOk c.format.result (λ s. string_bytes s ≡ l))
     (λ i. decimal c.args.answers ++ (codes " answers, " ++ (decimal c.args.messages ++ (codes " messages" ++ given i))))
     c.format.ensures.ok

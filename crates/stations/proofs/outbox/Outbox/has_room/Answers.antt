@@ -7,7 +7,7 @@ use Rattle.stations.proofs.Sendings.{counted-all, counted-full, counted-more}
 use Rattle.stations.proofs.outbox.Outbox.has_room.Goals as goal
 
 pub loop-i-init : goal.loop-i-init
-loop-i-init g c = (queues (g.L.Line.waits c.args.line.now), omega arith, c.room-from-room.ensures, refl)
+loop-i-init g c = (queues (g.L.Line.waits c.args.line.now), omega arith, c.room_from-room.ensures, refl)
 
 pub returns-then-room-to-eq0 : goal.returns-then-room-to-eq0
 returns-then-room-to-eq0 g c =

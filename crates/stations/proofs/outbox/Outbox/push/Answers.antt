@@ -8,7 +8,7 @@ pub returns : goal.returns
 returns c =
     record { posts = take_more_set c.args.self.now.posts c.args.self.now.count _ (omega arith); count = refl }
 
-pub invariant-of-self : goal.invariant-of-self
-invariant-of-self c =
+pub invariant_of-self : goal.invariant_of-self
+invariant_of-self c =
     let o = c.args.self.now in
-    (length-set o.posts o.count _ ∙ o.long, (omega arith, (stations-more o.posts o.count (record { to = c.args.to; note = c.args.note }) (omega arith) (omega arith) o.stations, tt)))
+    record { long = length-set o.posts o.count _ ∙ o.long; few = omega arith; stations = stations-more o.posts o.count (record { to = c.args.to; note = c.args.note }) (omega arith) (omega arith) o.stations }

@@ -13,6 +13,6 @@ returns-else-sent g c =
     record {
       kept = c.requires;
       beside = still;
-      answer = c.has-room-sent.ensures ∙ ap (λ b. room_for g.L.Line.most Q b xs) c.number.ensures.is;
+      answer = c.has_room-sent.ensures ∙ ap (λ b. room_for g.L.Line.most Q b xs) c.number.ensures.is;
       lists = sym (cond-false _ (post_all Q c.args.me.number xs) Q c.if-sent.false);
     }

@@ -12,4 +12,4 @@ loop-to-preserved g c =
     let W = g.L.Line.waits c.args.line.now in
     let l = c.loop-to in
     let n = c.count.ensures ∙ sym (length-map (W c.args.from l.to) reads) in
-    (length-set l.room l.to _ ∙ l.invariant.0, counts-more most (queues W) c.args.from l.room l.to _ (omega (arith, l.invariant.0)) l.invariant.1 (c.saturating-sub.ensures ∙ ap₂ (λ x y. x - y) c.limit.ensures n))
+    (length-set l.room l.to _ ∙ l.invariant.0, counts-more most (queues W) c.args.from l.room l.to _ (omega (arith, l.invariant.0)) l.invariant.1 (c.saturating_sub.ensures ∙ ap₂ (λ x y. x - y) c.limit.ensures n))

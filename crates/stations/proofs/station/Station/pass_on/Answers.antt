@@ -20,14 +20,14 @@ returns-in-Some c =
       count = omega (arith, c.push.ensures.count);
     }
 
-pub returns-in-default : goal.returns-in-default
-returns-in-default c =
+pub returns-in_default : goal.returns-in_default
+returns-in_default c =
     let s = c.args.self.now in
     let f = c.args.event in
     let o = c.lowest-lock.result in
     let is : o ≡ next (shows s) f = lowest-of 8 _ o c.lowest-lock.ensures in
     record {
-      after = passed s f (record { holder = o; waiting = (get_or s.locks f unlocked).waiting }) (omega arith) is (λ w. none_out o w (waiters s.locks f w) c.in-default.is);
-      posts = handed-none (shows s) f (Grant f c.args.given) o (outgoing c.args.out.now) c.in-default.is is;
+      after = passed s f (record { holder = o; waiting = (get_or s.locks f unlocked).waiting }) (omega arith) is (λ w. none_out o w (waiters s.locks f w) c.in_default.is);
+      posts = handed-none (shows s) f (Grant f c.args.given) o (outgoing c.args.out.now) c.in_default.is is;
       count = omega arith;
     }

@@ -9,7 +9,7 @@ use Rattle.stations.proofs.verdict.Verdict.settle.Goals as goal
 
 pub loop-station-init : goal.loop-station-init
 loop-station-init c =
-    (tt, tt, ap (λ xs. xs ++ told (member c.into-iter-station-iterator.result.rest.bits) (Settle c.args.self.event c.is-accepted.result)) c.empty-out.ensures.posts)
+    (tt, tt, ap (λ xs. xs ++ told (member c.into_iter-station-iterator.result.rest.bits) (Settle c.args.self.event c.is_accepted.result)) c.empty-out.ensures.posts)
 
 pub push-requires : goal.push-requires
 push-requires c =
@@ -23,11 +23,11 @@ loop-station-preserved c =
 
 pub returns : goal.returns
 returns c =
-    let all : c.into-iter-station-iterator.result.rest ≡ c.args.self.concerned =
-    ap (λ s. s.rest) c.into-iter-station-iterator.ensures.into-iter-gives ∙ c.members-station-items.ensures in
+    let all : c.into_iter-station-iterator.result.rest ≡ c.args.self.concerned =
+    ap (λ s. s.rest) c.into_iter-station-iterator.ensures.into_iter_gives ∙ c.members-station-items.ensures in
     record {
       delivery = refl;
       posts =
           told_none (member c.loop-station.station-iterator.rest.bits) _ (outgoing c.loop-station.out) _ c.loop-station.invariant.2 c.in-None.ensures.steps.0
-          ∙ ap₂ (λ s ok. told (member s.bits) (Settle c.args.self.event ok)) all c.is-accepted.ensures;
+          ∙ ap₂ (λ s ok. told (member s.bits) (Settle c.args.self.event ok)) all c.is_accepted.ensures;
     }
