@@ -11,7 +11,7 @@ at place low (Some p) l e h = e ∙ ap Some (sym h)
 pub returns-then-count-gt0 : goal.returns-then-count-gt0
 returns-then-count-gt0 g c =
     let h = c.count.ensures in
-    at c.loop-place.place _ c.pair-at.result (omega arith) (found (g.L.Line.waits c.args.line.now) c.loop-place.place (omega arith) (omega arith) c.loop-place.invariant) c.pair-at.ensures
+    at c.loop-place.place _ c.pair_at.result (omega arith) (found (g.L.Line.waits c.args.line.now) c.loop-place.place (omega arith) (omega arith) c.loop-place.invariant) c.pair_at.ensures
 
 pub loop-place-preserved : goal.loop-place-preserved
 loop-place-preserved g c =

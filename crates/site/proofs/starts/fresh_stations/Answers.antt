@@ -2,7 +2,7 @@ use Rattle.std.proofs.Common.{◌≡◌, ◌+◌, length, sym, refl, ap, ◌∙�
 use Rattle.protocol.specs.Station.{fresh}
 use Rattle.site.proofs.Stationing.{fresh-all, fresh-more, fresh-none, FreshBelow}
 use Rattle.site.proofs.starts.fresh_stations.Goals as goal
-use Rattle.site.proofs.starts.fresh_stations.Goals.{in-Some, in-default}
+use Rattle.site.proofs.starts.fresh_stations.Goals.{in-Some, in_default}
 
 pub loop-number-init : goal.loop-number-init
 loop-number-init g c = (fresh-none c.blank-stations.result (g.R.Rule.meaning c.args.rule.now) c.blank-stations.ensures, refl)
@@ -17,7 +17,7 @@ loop-number-preserved g c =
           (let e = w.in-Some.ensures in
           let s = w.fresh.ensures ∙ ap (fresh R) e.1 in
           subst (FreshBelow R (i + 1)) (sym w.stations-is) (fresh-more R ss i w.fresh.result c.loop-number.invariant.0 (omega arith) s, length-set ss i w.fresh.result ∙ c.loop-number.invariant.1))
-      | in-default w ↦ absurd (omega (arith, w.in-default.ensures))
+      | in_default w ↦ absurd (omega (arith, w.in_default.ensures))
     ]
 
 pub returns : goal.returns

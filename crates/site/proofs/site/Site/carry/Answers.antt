@@ -24,21 +24,21 @@ done rules lines s t d {a} {b} opens stays ea eb la lb rule sound x =
 
 pub returns-in-Nothing : goal.returns-in-Nothing
 returns-in-Nothing g c =
-    let from = c.in-ok-from.ensures in
-    let to = c.in-ok-to.ensures in
+    let from = c.in_ok-from.ensures in
+    let to = c.in_ok-to.ensures in
     let e = c.in-Nothing.ensures in
     done g.R.Rule g.L.Line c.args.self.now c.transfer.new.self Nothing c.if-not-self.false e.started from.1 to.1 from.0 to.0 e.rule e.sound e.transferred
 
 pub returns-in-Carried : goal.returns-in-Carried
 returns-in-Carried g c =
-    let from = c.in-ok-from.ensures in
-    let to = c.in-ok-to.ensures in
+    let from = c.in_ok-from.ensures in
+    let to = c.in_ok-to.ensures in
     let e = c.in-Carried.ensures in
     done g.R.Rule g.L.Line c.args.self.now c.transfer.new.self Carried c.if-not-self.false e.started from.1 to.1 from.0 to.0 e.rule e.sound e.transferred
 
 pub returns-in-Answered : goal.returns-in-Answered
 returns-in-Answered g c =
-    let from = c.in-ok-from.ensures in
-    let to = c.in-ok-to.ensures in
+    let from = c.in_ok-from.ensures in
+    let to = c.in_ok-to.ensures in
     let e = c.in-Answered.ensures in
     done g.R.Rule g.L.Line c.args.self.now c.transfer.new.self (Answered c.in-Answered.answer) c.if-not-self.false e.started from.1 to.1 from.0 to.0 e.rule e.sound e.transferred

@@ -3,7 +3,7 @@ use Rattle.std.proofs.Common.{arith}
 use Rattle.site.specs.Statuses.{site_in}
 use Rattle.site.proofs.Listing.{gathered-all, gathered-more}
 use Rattle.site.proofs.site.Site.gathered.Goals as goal
-use Rattle.site.proofs.site.Site.gathered.Goals.{in-Some, in-default}
+use Rattle.site.proofs.site.Site.gathered.Goals.{in-Some, in_default}
 
 pub loop-number-preserved : goal.loop-number-preserved
 loop-number-preserved g c =
@@ -12,9 +12,9 @@ loop-number-preserved g c =
     let turn = c.loop-number in
     elim c.match-new.branch [
       | in-Some w ↦
-          let laid = w.overlay-own-marking in
+          let laid = w.overlay_own-marking in
           gathered-more R S turn.number w.in-Some.me.number turn.marking laid.result c.match-new.marking w.in-Some.ensures.1 w.marking-is laid.ensures turn.invariant
-      | in-default w ↦ let h = w.in-default.ensures in absurd (omega arith)
+      | in_default w ↦ let h = w.in_default.ensures in absurd (omega arith)
     ]
 
 pub returns : goal.returns

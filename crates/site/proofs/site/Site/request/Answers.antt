@@ -26,9 +26,9 @@ done rules lines s t o {event = event} e rule sound d =
 pub returns-then-not-send : goal.returns-then-not-send
 returns-then-not-send g c =
     let R = g.R.Rule.meaning c.args.self.now.rule in
-    let e = c.in-ok-me.ensures in
+    let e = c.in_ok-me.ensures in
     let may = subst (λ k. refusal R (status g.L.Line c.args.self.now) (Request k c.args.event) ≡ None) (sym e.1) e.0 in
-    let h = acting g.L.Line.most (g.L.Line.waits c.args.self.now.line) (g.L.Line.waits c.send.new.line) c.in-ok-me.me.number (λ S. begins R S c.args.event (lowest (R.locks c.args.event) R.events)) c.args.self.now.stations c.number-at.result c.begin-delivery.new.self c.begin-delivery.result.0 (outgoing c.begin-delivery.result.1) c.send.result c.number-at.ensures.is c.begin-delivery.ensures.station c.begin-delivery.ensures.delivery c.begin-delivery.ensures.posts c.send.ensures.answer c.send.ensures.lists in
+    let h = acting g.L.Line.most (g.L.Line.waits c.args.self.now.line) (g.L.Line.waits c.send.new.line) c.in_ok-me.me.number (λ S. begins R S c.args.event (lowest (R.locks c.args.event) R.events)) c.args.self.now.stations c.number-at.result c.begin-delivery.new.self c.begin-delivery.result.0 (outgoing c.begin-delivery.result.1) c.send.result c.number-at.ensures.is c.begin-delivery.ensures.station c.begin-delivery.ensures.delivery c.begin-delivery.ensures.posts c.send.ensures.answer c.send.ensures.lists in
     let w = full-lists _ _ _ _ _ _ _ _ _ h c.if-not-send.true in
     done g.R.Rule g.L.Line c.args.self.now _ _ e.1 refl c.send.ensures.kept
     (unrequested R g.L.Line.most (status g.L.Line c.args.self.now) _ _ _ may (full-goes _ _ _ _ _ _ _ _ _ h c.if-not-send.true)
@@ -37,24 +37,24 @@ returns-then-not-send g c =
 pub returns-in-Carried : goal.returns-in-Carried
 returns-in-Carried g c =
     let R = g.R.Rule.meaning c.args.self.now.rule in
-    let e = c.in-ok-me.ensures in
+    let e = c.in_ok-me.ensures in
     let may = subst (λ k. refusal R (status g.L.Line c.args.self.now) (Request k c.args.event) ≡ None) (sym e.1) e.0 in
-    let h = acting g.L.Line.most (g.L.Line.waits c.args.self.now.line) (g.L.Line.waits c.send.new.line) c.in-ok-me.me.number (λ S. begins R S c.args.event (lowest (R.locks c.args.event) R.events)) c.args.self.now.stations c.number-at.result c.begin-delivery.new.self c.begin-delivery.result.0 (outgoing c.begin-delivery.result.1) c.send.result c.number-at.ensures.is c.begin-delivery.ensures.station c.begin-delivery.ensures.delivery c.begin-delivery.ensures.posts c.send.ensures.answer c.send.ensures.lists in
-    let few : c.in-ok-me.me.number < length c.args.self.now.stations = grind arith in
+    let h = acting g.L.Line.most (g.L.Line.waits c.args.self.now.line) (g.L.Line.waits c.send.new.line) c.in_ok-me.me.number (λ S. begins R S c.args.event (lowest (R.locks c.args.event) R.events)) c.args.self.now.stations c.number-at.result c.begin-delivery.new.self c.begin-delivery.result.0 (outgoing c.begin-delivery.result.1) c.send.result c.number-at.ensures.is c.begin-delivery.ensures.station c.begin-delivery.ensures.delivery c.begin-delivery.ensures.posts c.send.ensures.answer c.send.ensures.lists in
+    let few : c.in_ok-me.me.number < length c.args.self.now.stations = grind arith in
     let m = sent-moved _ _ _ _ _ _ _ _ _ h c.if-not-send.false (g.L.Line.waits c.args.self.now.line) c.args.self.now.stations few in
     let at = ap (λ k. site_of (g.L.Line.waits c.send.new.line) (set c.args.self.now.stations k c.begin-delivery.new.self)) c.number-at.ensures.is in
     done g.R.Rule g.L.Line c.args.self.now _ Opened e.1 refl c.send.ensures.kept
     (requested R g.L.Line.most (status g.L.Line c.args.self.now) _ _ _ may refl (at ∙ m))
 
-pub returns-in-default : goal.returns-in-default
+pub returns-in_default : goal.returns-in_default
 unfolding post_all
-returns-in-default g c =
+returns-in_default g c =
     let R = g.R.Rule.meaning c.args.self.now.rule in
-    let e = c.in-ok-me.ensures in
+    let e = c.in_ok-me.ensures in
     let may = subst (λ k. refusal R (status g.L.Line c.args.self.now) (Request k c.args.event) ≡ None) (sym e.1) e.0 in
-    let h = acting g.L.Line.most (g.L.Line.waits c.args.self.now.line) (g.L.Line.waits c.send.new.line) c.in-ok-me.me.number (λ S. begins R S c.args.event (lowest (R.locks c.args.event) R.events)) c.args.self.now.stations c.number-at.result c.begin-delivery.new.self c.begin-delivery.result.0 (outgoing c.begin-delivery.result.1) c.send.result c.number-at.ensures.is c.begin-delivery.ensures.station c.begin-delivery.ensures.delivery c.begin-delivery.ensures.posts c.send.ensures.answer c.send.ensures.lists in
-    let stray = begins-stray R (shows (get_or c.args.self.now.stations c.in-ok-me.me.number blank)) c.args.event (lowest (R.locks c.args.event) R.events) (λ q. c.in-default.not-Carried (h.delivery_is ∙ q)) in
-    let w = sent-lists _ _ _ _ _ _ _ _ _ h c.if-not-send.false ∙ ap (post_all _ c.in-ok-me.me.number) stray.1 in
+    let h = acting g.L.Line.most (g.L.Line.waits c.args.self.now.line) (g.L.Line.waits c.send.new.line) c.in_ok-me.me.number (λ S. begins R S c.args.event (lowest (R.locks c.args.event) R.events)) c.args.self.now.stations c.number-at.result c.begin-delivery.new.self c.begin-delivery.result.0 (outgoing c.begin-delivery.result.1) c.send.result c.number-at.ensures.is c.begin-delivery.ensures.station c.begin-delivery.ensures.delivery c.begin-delivery.ensures.posts c.send.ensures.answer c.send.ensures.lists in
+    let stray = begins-stray R (shows (get_or c.args.self.now.stations c.in_ok-me.me.number blank)) c.args.event (lowest (R.locks c.args.event) R.events) (λ q. c.in_default.not-Carried (h.delivery_is ∙ q)) in
+    let w = sent-lists _ _ _ _ _ _ _ _ _ h c.if-not-send.false ∙ ap (post_all _ c.in_ok-me.me.number) stray.1 in
     done g.R.Rule g.L.Line c.args.self.now _ _ e.1 refl c.send.ensures.kept
     (unrequested R g.L.Line.most (status g.L.Line c.args.self.now) _ _ _ may (stray-goes _ _ _ _ _ _ _ _ _ h (ap is_stray h.delivery_is ∙ stray.0))
     (λ i. record { is_open = c.args.self.now.started; site = record { station = (site_of (g.L.Line.waits c.args.self.now.line) c.args.self.now.stations).station; waits = w i } }))

@@ -41,19 +41,19 @@ loop-messages-preserved g c =
       c.transfer.ensures.sound,
     )
 
-pub returns-in-default-transfer : goal.returns-in-default-transfer
-returns-in-default-transfer g c =
+pub returns-in_default-transfer : goal.returns-in_default-transfer
+returns-in_default-transfer g c =
     record {
       rule = c.transfer.ensures.rule ∙ c.loop-messages.invariant.2;
       sound = c.transfer.ensures.sound;
-      settles = ends g (goal.at.returns-in-default-transfer g c).After-transfer c.in-default-transfer.not-Carried (λ v e. c.if-answers-lt8.false);
+      settles = ends g (goal.at.returns-in_default-transfer g c).After-transfer c.in_default-transfer.not-Carried (λ v e. c.if-answers-lt8.false);
     }
 
-pub returns-in-default-transfer-2 : goal.returns-in-default-transfer-2
-returns-in-default-transfer-2 g c =
+pub returns-in_default-transfer-2 : goal.returns-in_default-transfer-2
+returns-in_default-transfer-2 g c =
     let none : (v : Answer) → c.transfer.result ≡ Answered v → ⊥ = λ v e. search rules in
     record {
       rule = c.transfer.ensures.rule ∙ c.loop-messages.invariant.2;
       sound = c.transfer.ensures.sound;
-      settles = ends g (goal.at.returns-in-default-transfer-2 g c).After-transfer c.in-default-transfer.not-Carried (λ v e. absurd (none v e));
+      settles = ends g (goal.at.returns-in_default-transfer-2 g c).After-transfer c.in_default-transfer.not-Carried (λ v e. absurd (none v e));
     }

@@ -9,12 +9,12 @@ returns g c =
     let site = c.args.self.now in
     let R = g.R.Rule.meaning site.rule in
     let h = status g.L.Line site in
-    let known = c.in-ok-me.ensures in
-    let own = c.own-owed in
+    let known = c.in_ok-me.ensures in
+    let own = c.own_owed in
     record {
       rule = refl;
       sound = c.requires;
       served =
           tally-served R g.L.Line.most h c.args.station own.result c.if-not-self.false known.0
-          (own-owed-is R h.site c.in-ok-me.me.number c.number.result c.args.station own.result known.1 (c.number.ensures.is ∙ known.1) own.ensures);
+          (own-owed-is R h.site c.in_ok-me.me.number c.number.result c.args.station own.result known.1 (c.number.ensures.is ∙ known.1) own.ensures);
     }

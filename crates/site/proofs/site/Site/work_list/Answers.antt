@@ -19,7 +19,7 @@ returns g c =
       rule = refl;
       sound = c.requires;
       served =
-          list-served R g.L.Line.most h _ c.lowest-pair.result c.enabled-events.result c.common.result c.if-not-self.false c.lowest-pair.ensures c.if-is-some.ensures
-          (enabled-is R M N agree (g.met.R.Rule.lawful rule) c.enabled-events.result c.enabled-events.ensures)
+          list-served R g.L.Line.most h _ c.lowest_pair.result c.enabled_events.result c.common.result c.if-not-self.false c.lowest_pair.ensures c.if-is_some.ensures
+          (enabled-is R M N agree (g.met.R.Rule.lawful rule) c.enabled_events.result c.enabled_events.ensures)
           (owed-is R M N agree c.events.result c.owed.result c.first.result c.common.result (g.met.R.Rule.sized rule).1 c.events.ensures.is c.owed.ensures c.first.ensures c.common.ensures);
     }
