@@ -10,7 +10,7 @@ returns g c =
     let law = g.met.R.Rule in
     let proper : Proper (g.R.Rule.meaning c.new-site.result.rule) = record { lawful = law.lawful site.rule; stations = (law.stationed site.rule).1; events = (law.sized site.rule).1 } in
     let made = c.new-site.ensures in
-    let done = c.serve-all.ensures in
+    let done = c.serve_all.ensures in
     record {
       count = done.count;
       rest = done.rest;
