@@ -1,5 +1,5 @@
 -- What a row of the worked cases says.
-use Rattle.std.specs.Prelude.{◌≡◌, ℕ, ◌+◌, ◌/◌, ◌%◌, Bool, true, false, cond, ◌&&◌, List, [], ◌∷◌, map, length, ◌==◌, nat_lt}
+use Rattle.std.specs.Prelude.{◌≡◌, ℕ, ◌+◌, ◌/◌, ◌%◌, cond, ◌&&◌, List, [], ◌∷◌, map, ◌==◌, nat_lt}
 use Rattle.events.specs.declared.marks.Marks.{Marks}
 use Rattle.graph.specs.declared.event.Event.{Event}
 use Rattle.graph.specs.declared.kind.Kind.{Kind}

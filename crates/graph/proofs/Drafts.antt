@@ -1,20 +1,18 @@
 -- What a draft keeps as it grows.
-use Rattle.std.proofs.Common.{◌≡◌, ℕ, ◌+◌, ◌<◌, ◌≤◌, false, not, List, [], ◌∷◌, ◌++◌, length, get_or, take, set, replicate, None, sym, refl, ap, ◌∙◌, subst, ap₂, arith}
+use Rattle.std.proofs.Common.{◌≡◌, ℕ, ◌+◌, ◌<◌, ◌≤◌, false, not, List, length, take, set, replicate, None, sym, ap, ◌∙◌, subst, ap₂, arith}
 use Rattle.std.proofs.lemmas.List.{get_or-take, length-replicate, length-take-le, take_more_set}
 use Rattle.std.proofs.lemmas.Bool.{and_from, both_ways, cond-false, cond-true, eq-eqb, le-leb, lt-ltb, ne_eqb}
 use Rattle.graph.specs.declared.kind.Kind.{Kind}
 use Rattle.graph.specs.declared.kind.Kind.TheVariants.{Milestone}
 use Rattle.graph.specs.declared.release.Release.{Release}
-use Rattle.graph.specs.declared.release.Release.TheVariants.{Four}
 use Rattle.graph.specs.declared.relation.Relation.{Relation}
 use Rattle.graph.specs.declared.event.Event.{Event}
 use Rattle.graph.specs.declared.draft.Draft.{Draft}
 use Rattle.graph.specs.Held.{held}
 use Rattle.graph.specs.Content.{Apart, BarePast, BlankPast, Content, EndsIn, NoMilestone, OwnersIn, Sound, bare, blank}
-use Rattle.graph.specs.Releases.{barred, release_number}
-use Rattle.graph.specs.Kinds.{kind_number}
+use Rattle.graph.specs.Releases.{barred}
 use Rattle.graph.specs.Declarations.{clashing, event_error, relation_error}
-use Rattle.graph.proofs.Tables.{fill, fresh, past}
+use Rattle.graph.proofs.Tables.{fill, fresh}
 use Rattle.graph.proofs.Clashes.{apart-push, met}
 
 module _ (es : List Event) (n : ℕ) (e : Event) (room : n < length es) where

@@ -1,5 +1,5 @@
 -- What a declaration adds to a graph, and why one is refused.
-use Rattle.std.specs.Prelude.{◌≡◌, ℕ, Bool, true, false, cond, not, ◌&&◌, ◌||◌, List, [], ◌∷◌, ◌++◌, length, Some, None, Option, ◌==◌, nat_le, nat_lt}
+use Rattle.std.specs.Prelude.{◌≡◌, ℕ, Bool, false, cond, not, ◌&&◌, ◌||◌, List, [], ◌∷◌, ◌++◌, length, Some, None, Option, ◌==◌, nat_le, nat_lt}
 use Rattle.events.specs.Marks.{sum_of}
 use Rattle.graph.specs.declared.kind.Kind.{Kind}
 use Rattle.graph.specs.declared.release.Release.{Release}

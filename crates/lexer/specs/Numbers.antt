@@ -1,5 +1,5 @@
 -- Numbers of one to three digits.
-use Rattle.std.specs.Prelude.{ℕ, ◌+◌, ◌-◌, ◌*◌, ◌/◌, ◌%◌, Bool, true, false, cond, ◌&&◌, List, [], ◌∷◌, nat_le, nat_lt}
+use Rattle.std.specs.Prelude.{ℕ, ◌+◌, ◌-◌, ◌*◌, ◌/◌, ◌%◌, Bool, false, cond, ◌&&◌, List, [], ◌∷◌, nat_le, nat_lt}
 
 -- the decimal digits of a number below a thousand, without leading zero
 unfoldable pub digits : ℕ → List ℕ

@@ -1,10 +1,9 @@
 -- What is written down reads back.
-use Rattle.std.proofs.Common.{◌≡◌, ℕ, zero, suc, ◌<◌, ◌≤◌, Bool, true, false, sym, refl, ap, ◌∙◌, arith}
+use Rattle.std.proofs.Common.{◌≡◌, ℕ, zero, suc, ◌≤◌, Bool, true, false, sym, refl, ◌∙◌, arith}
 use Rattle.events.proofs.Sums.{sums_apart}
 use Rattle.events.specs.Marks.{sum_of}
 use Rattle.events.specs.declared.marks.Marks.{Marks}
 use Rattle.lines.specs.Messages.{WrittenReads, marks_of, reads, written}
-use Rattle.lines.specs.declared.note.Note.{Note}
 use Rattle.lines.specs.declared.note.Note.TheVariants.{Ask, Grant, Settle, Unreadable}
 
 sum_back : (n : ℕ) → n ≤ 7 → sum_of (marks_of n) ≡ n

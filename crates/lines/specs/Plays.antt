@@ -1,5 +1,5 @@
 -- Lists of calls of a line, and the law that each pair is a queue.
-use Rattle.std.specs.Prelude.{◌≡◌, ℕ, Bool, true, cond, ◌&&◌, List, [], ◌∷◌, ◌++◌, length, Some, None, Option, nat_lt}
+use Rattle.std.specs.Prelude.{◌≡◌, ℕ, Bool, true, cond, List, [], ◌∷◌, ◌++◌, length, Some, None, Option, nat_lt}
 use Rattle.lines.specs.declared.message.Message.{Message}
 use Rattle.lines.specs.declared.play.LineAnswer.{LineAnswer}
 use Rattle.lines.specs.declared.play.LineAnswer.TheVariants.{Counted, Nothing, Posted, Refused, Taken}

@@ -14,7 +14,6 @@ use Rattle.protocol.specs.Machine.{Machine, answers_of, heard, Replays}
 use Rattle.protocol.specs.Turns.{Status, Turn, Serves, Follow}
 use Rattle.protocol.specs.Served.{Served}
 use Rattle.protocol.specs.Promise.{Still, Moment, during, moment_of, turned, if_any, moments, ListsAll, Closed, Promise, Proper, Kept}
-use Rattle.protocol.proofs.Room.{room}
 use Rattle.protocol.proofs.OneTable.{agrees}
 use Rattle.protocol.proofs.Moments.{both_of, Coherent}
 use Rattle.protocol.proofs.Resting.{at_rest, carried-cost}

@@ -16,7 +16,7 @@ use Rattle.protocol.specs.Turns.{Transfer, is_stray, goes, answer_of, Carries, C
 use Rattle.protocol.specs.Served.{Stuck}
 use Rattle.protocol.specs.Promise.{Moment, later, after_each, Proper}
 use Rattle.protocol.proofs.Whole.{Both, expects, after, open_cost, due, open_count, Spent}
-use Rattle.protocol.proofs.Locking.{given, Invariant}
+use Rattle.protocol.proofs.Locking.{Invariant}
 use Rattle.protocol.proofs.Shows.{Shows}
 use Rattle.protocol.proofs.Carrying.{InStep, carry-next, shown_of, moves_next}
 use Rattle.protocol.proofs.OwnOnly.{OwnOnly, own-step, own-moved}

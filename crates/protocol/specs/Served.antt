@@ -1,5 +1,5 @@
 -- The contract of a single call: it does its turn, or it meets what never happens in a site that was started.
-use Rattle.std.specs.Prelude.{◌≡◌, ℕ, ◌+◌, ◌*◌, ◌<◌, Bool, true, false, ◌⊎◌, List, ◌∷◌, length, Some, None}
+use Rattle.std.specs.Prelude.{◌≡◌, ℕ, ◌+◌, ◌*◌, ◌<◌, false, ◌⊎◌, List, ◌∷◌, length, Some, None}
 use Rattle.lines.specs.declared.note.Note.{Note}
 use Rattle.rules.specs.Rule.{Meaning}
 use Rattle.protocol.specs.declared.call.Call.{Call}

@@ -5,7 +5,7 @@ use Rattle.lines.specs.Lists.{Lists, inside}
 use Rattle.lines.specs.Messages.{reads}
 use Rattle.rules.specs.Rule.{Meaning}
 use Rattle.protocol.proofs.Kept.{kept}
-use Rattle.protocol.specs.Promise.{Closed, Promise, Proper}
+use Rattle.protocol.specs.Promise.{Promise, Proper}
 use Rattle.protocol.specs.Served.{Served}
 use Rattle.protocol.specs.Turns.{Status}
 use Rattle.protocol.specs.declared.call.Call.{Call}

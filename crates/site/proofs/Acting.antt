@@ -1,9 +1,9 @@
 -- A station acted on its own copy, and what it posts was sent if there was room for all of it.
-use Rattle.std.proofs.Common.{◌≡◌, ℕ, ◌<◌, Bool, true, false, cond, not, ◌&&◌, List, length, get_or, set, sym, refl, ap, ◌∙◌, ap₂}
+use Rattle.std.proofs.Common.{◌≡◌, ℕ, ◌<◌, Bool, true, false, cond, not, ◌&&◌, List, length, get_or, set, sym, ap, ◌∙◌, ap₂}
 use Rattle.std.proofs.lemmas.Bool.{and_right, cond-false, cond-true}
 use Rattle.lines.specs.Lists.{Lists}
 use Rattle.protocol.specs.Queues.{post_all, queues, room_for}
-use Rattle.protocol.specs.Sites.{Site, moved}
+use Rattle.protocol.specs.Sites.{moved}
 use Rattle.protocol.specs.Station.{Station as Model, Step, put}
 use Rattle.protocol.specs.Turns.{goes, is_stray}
 use Rattle.protocol.specs.declared.delivery.Delivery.{Delivery}

@@ -1,5 +1,5 @@
 -- What the lists of a site hold.
-use Rattle.std.proofs.Common.{◌≡◌, ℕ, ◌+◌, ◌<◌, ◌≤◌, Bool, true, false, cond, ◌&&◌, eqb, ltb, [], is_some, Some, None, Option, sym, refl, ap, ◌∙◌, ap₂, inl, inr, arith, MatchOption}
+use Rattle.std.proofs.Common.{◌≡◌, ℕ, ◌+◌, ◌<◌, ◌≤◌, Bool, true, false, cond, ◌&&◌, eqb, ltb, [], is_some, None, Option, sym, refl, ap, ◌∙◌, ap₂, inl, inr, arith, MatchOption}
 use Rattle.std.proofs.lemmas.Bool.{cases_eq, lt-ltb}
 use Rattle.std.proofs.lemmas.Bool.Decides.{nat_tests}
 use Rattle.events.proofs.MemberLaws.{same-members}
@@ -10,15 +10,11 @@ use Rattle.events.specs.declared.marking.Marking.{Marking}
 use Rattle.events.specs.declared.marks.Marks.{Marks}
 use Rattle.protocol.proofs.EventSets.{set_same, sets-hold}
 use Rattle.protocol.specs.EventSets.{is_enabled, is_owed, set_of}
-use Rattle.protocol.specs.Play.{turn_of}
-use Rattle.protocol.specs.Queues.{Queues}
 use Rattle.protocol.specs.Served.{Served}
 use Rattle.protocol.specs.Sites.{Site}
 use Rattle.protocol.specs.Station.{owns}
-use Rattle.protocol.specs.Turns.{Does, Status, gathered, lowest_pair, refusal}
-use Rattle.protocol.specs.declared.call.Call.{Call}
+use Rattle.protocol.specs.Turns.{Status, gathered, lowest_pair}
 use Rattle.protocol.specs.declared.call.Call.TheVariants.{Tally, WorkList}
-use Rattle.protocol.specs.declared.call.Outcome.{Outcome}
 use Rattle.protocol.specs.declared.call.Outcome.TheVariants.{Listed, Tallied}
 use Rattle.rules.specs.Answers.{accepted}
 use Rattle.rules.specs.Rule.{Lawful, Meaning}

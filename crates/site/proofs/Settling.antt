@@ -22,7 +22,6 @@ use Rattle.site.specs.Outcomes.{settling}
 use Rattle.site.specs.Settling.{Carrying, Settles, noted}
 use Rattle.site.specs.Transfers.{Transferred}
 use Rattle.site.specs.declared.site.Settlement.{Settlement}
-use Rattle.site.proofs.Serving.{open_is}
 
 -- the lowest pair holds a message
 lowest-filled : (Q : Queues) (a b : ℕ) → lowest_pair Q ≡ Some (8 * a + b) → b < 8 → Q a b ≡ [] → ⊥

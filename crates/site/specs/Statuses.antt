@@ -1,5 +1,5 @@
 -- A site of the program as the model has it.
-use Rattle.std.specs.Prelude.{ℕ, Bool, List, slice_index_or}
+use Rattle.std.specs.Prelude.{List, slice_index_or}
 use Rattle.lines.specs.Lists.{Lists}
 use Rattle.lines.specs.declared.line.Line.{Ghosts as LineGhosts}
 use Rattle.protocol.specs.Queues.{queues}

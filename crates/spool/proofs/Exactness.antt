@@ -1,9 +1,8 @@
 -- The bytes of a pair are exactly its list, zeros included.
-use Rattle.std.proofs.Common.{◌≡◌, ℕ, zero, suc, ◌+◌, ◌-◌, ◌*◌, ◌<◌, ◌≤◌, true, List, [], ◌∷◌, ◌++◌, length, get_or, take, drop, replicate, sym, refl, ap, ◌∙◌, ap₂, arith}
+use Rattle.std.proofs.Common.{◌≡◌, ℕ, zero, suc, ◌+◌, ◌-◌, ◌*◌, ◌<◌, ◌≤◌, List, [], ◌∷◌, ◌++◌, length, get_or, take, drop, replicate, sym, refl, ap, ◌∙◌, ap₂, arith}
 use Rattle.std.proofs.lemmas.List.{drop_more}
 use Rattle.lines.proofs.Placing.{at_place, stations}
-use Rattle.lines.specs.Lists.{inside}
-use Rattle.spool.specs.Slots.{ExactLayout, Laid, Slot, bytes_of, layout, messages, slot_at, slots, spooled}
+use Rattle.spool.specs.Slots.{ExactLayout, Slot, bytes_of, layout, messages, slots}
 use Rattle.spool.proofs.Slots.{length-messages}
 
 -- n bytes from i, one after another

@@ -1,8 +1,8 @@
 -- The bytes of pairs: what they say, and that a change of one pair leaves the others.
-use Rattle.std.proofs.Common.{◌≡◌, ℕ, zero, suc, ◌+◌, ◌-◌, ◌*◌, ◌<◌, ◌≤◌, Bool, true, false, cond, ◌⊎◌, List, [], ◌∷◌, ◌++◌, length, get_or, set, sym, refl, ap, ◌∙◌, subst, ap₂, inl, inr, add-zero, arith, length-set, get_or-set_other, get_or-set_same}
+use Rattle.std.proofs.Common.{◌≡◌, ℕ, zero, suc, ◌+◌, ◌*◌, ◌<◌, ◌≤◌, Bool, true, false, cond, ◌⊎◌, List, [], ◌∷◌, ◌++◌, length, get_or, sym, refl, ap, ◌∙◌, subst, ap₂, inl, inr, add-zero, arith}
 use Rattle.std.proofs.lemmas.Bool.{cases_eq, cases_lt}
 use Rattle.lines.proofs.Placing.{Elsewhere, stations}
-use Rattle.lines.specs.Lists.{inside, placed}
+use Rattle.lines.specs.Lists.{inside}
 use Rattle.lines.specs.declared.message.Message.{Message}
 use Rattle.spool.specs.Slots.{Cleared, Laid, SameAround, SameBeyond, Slot, message_at, messages, slot_at, slots, spooled}
 

@@ -1,5 +1,5 @@
 -- One more line of a text is one more declaration of its graph.
-use Rattle.std.proofs.Common.{◌≡◌, ℕ, suc, ◌+◌, ◌<◌, Bool, true, false, cond, not, List, [], ◌∷◌, ◌++◌, map, length, Some, None, Option, sym, refl, ap, ◌∙◌, subst, append_assoc, append-nil, arith}
+use Rattle.std.proofs.Common.{◌≡◌, ℕ, suc, ◌+◌, ◌<◌, Bool, true, false, cond, not, List, [], ◌∷◌, ◌++◌, map, length, Some, None, Option, sym, refl, ap, ◌∙◌, append_assoc, append-nil, arith}
 use Rattle.std.proofs.lemmas.List.{map_push, nil_from_length}
 use Rattle.std.proofs.lemmas.Bool.{and_parts, eqb-true}
 use Rattle.events.specs.Marks.{sum_of}
@@ -11,7 +11,6 @@ use Rattle.graph.specs.declared.error.BuildError.TheVariants.{Full, Invalid, Con
 use Rattle.graph.specs.Content.{Content}
 use Rattle.graph.specs.Declarations.{clashing, error_number, event_error, fits_event, fits_relation, full_of_events, full_of_relations, plus_event, plus_relation, relation_error}
 use Rattle.graph.specs.Releases.{release_number}
-use Rattle.text.specs.declared.declaration.Declaration.{Declaration}
 use Rattle.text.specs.declared.declaration.Declaration.TheVariants.{Stations, Event, Relation}
 use Rattle.text.specs.Declarations.{declarations, numbered, related}
 use Rattle.text.specs.Reading.{breaks}

@@ -1,5 +1,5 @@
 -- A refused text has one fault.
-use Rattle.std.proofs.Common.{◌≡◌, ℕ, suc, ◌+◌, ◌<◌, ◌≤◌, ◌⊎◌, List, [], ◌∷◌, ◌++◌, map, length, Some, None, Ok, Err, Option, Result, sym, refl, ap, ◌∙◌, subst, inl, inr, ⊎_elim, arith, MatchResult}
+use Rattle.std.proofs.Common.{◌≡◌, ℕ, suc, ◌+◌, ◌⊎◌, List, [], ◌∷◌, ◌++◌, map, length, Some, None, Ok, Err, Option, Result, sym, refl, ap, ◌∙◌, subst, inl, inr, ⊎_elim, arith, MatchResult}
 use Rattle.std.specs.List.{AllByRecursion as All}
 use Rattle.std.proofs.lemmas.Bool.{both_ways}
 use Rattle.graph.specs.declared.graph.Graph.{Graph}
@@ -10,8 +10,7 @@ use Rattle.text.specs.declared.fault.GraphFault.{GraphFault}
 use Rattle.text.specs.declared.fault.Report.{Report}
 use Rattle.lexer.specs.Bytes.{clean}
 use Rattle.text.specs.Faults.{told}
-use Rattle.lexer.specs.Lines.{lines}
-use Rattle.text.specs.Declarations.{Fits, declarations, numbered, related, written}
+use Rattle.text.specs.Declarations.{Fits, numbered, related, written}
 use Rattle.text.specs.Reading.{Faulty, FirstFault, Refused, SoFar, Unfinished, Writes, breaks, declared}
 use Rattle.text.proofs.Writings.{clean-written, declarations-same, fits-declared, follows, map_same, no-fault, not-refused, one-writing, split-map, written_same}
 

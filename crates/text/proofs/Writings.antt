@@ -1,9 +1,9 @@
 -- A text that writes a graph down is not refused, and writes one graph.
-use Rattle.std.proofs.Common.{◌≡◌, ℕ, zero, suc, ◌+◌, ◌<◌, ◌≤◌, Bool, true, false, cond, not, ◌&&◌, ◌||◌, eqb, ltb, leb, ◌⊎◌, List, [], ◌∷◌, ◌++◌, map, length, get_or, Some, None, Option, sym, refl, ap, ◌∙◌, subst, ap₂, inl, inr, ⊎_elim, append-nil, arith}
+use Rattle.std.proofs.Common.{◌≡◌, ℕ, suc, ◌+◌, ◌<◌, ◌≤◌, true, false, cond, not, ◌||◌, eqb, ltb, ◌⊎◌, List, [], ◌∷◌, ◌++◌, map, length, Some, None, Option, sym, refl, ap, ◌∙◌, subst, inl, inr, ⊎_elim, append-nil, arith}
 use Rattle.std.specs.List.{AllByRecursion as All}
 use Rattle.std.proofs.ByRecursion.{All-append, All-from_get_or}
 use Rattle.std.proofs.lemmas.List.{get_or_append_left, get_or_at, length-append}
-use Rattle.std.proofs.lemmas.Bool.{and_from, and_parts, both_ways, cases_Bool, cond-false, cond-true, eq-eqb, eqb-true, le-leb, le-ltb, leb-true, lt-ltb, ne_eqb, or_cases}
+use Rattle.std.proofs.lemmas.Bool.{and_from, and_parts, both_ways, cases_Bool, cond-false, eq-eqb, le-leb, le-ltb, leb-true, lt-ltb, ne_eqb, or_cases}
 use Rattle.events.specs.Marks.{sum_of}
 use Rattle.events.proofs.Sums.{sum-few, sums_apart}
 use Rattle.graph.specs.declared.kind.Kind.{Kind}
@@ -13,8 +13,7 @@ use Rattle.graph.specs.declared.release.Release.TheVariants.{Four, Six}
 use Rattle.graph.specs.declared.event.Event as event
 use Rattle.graph.specs.declared.relation.Relation as relation
 use Rattle.graph.specs.Content.{Content, Sound, bare, blank, clash, event_at, relation_at}
-use Rattle.graph.specs.Declarations.{clashing, fits_event, fits_head, fits_relation}
-use Rattle.graph.specs.Kinds.{kind_number}
+use Rattle.graph.specs.Declarations.{clashing}
 use Rattle.graph.specs.Releases.{barred, release_number}
 use Rattle.text.specs.declared.declaration.Declaration.{Declaration}
 use Rattle.text.specs.declared.declaration.Declaration.TheVariants.{Stations, Event, Relation}
@@ -23,7 +22,7 @@ use Rattle.lexer.specs.Bytes.{clean, printable}
 use Rattle.lexer.specs.Lines.{lines}
 use Rattle.lexer.specs.Numbers.{digit_from, digits, shaped}
 use Rattle.text.specs.Declarations.{Fits, declarations, field, letter_of, numbered, related, written}
-use Rattle.text.specs.Reading.{Faulty, FirstFault, Refused, SoFar, Unfinished, Writes, breaks, complete, declared}
+use Rattle.text.specs.Reading.{Faulty, FirstFault, Refused, SoFar, Writes, breaks, complete, declared}
 use Rattle.lexer.proofs.Numerals.{digits-shaped}
 use Rattle.text.proofs.Fields.{field-same, letter-apart, stop-none}
 

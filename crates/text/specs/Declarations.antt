@@ -1,5 +1,5 @@
 -- The line that writes a declaration, and the declarations of a graph.
-use Rattle.std.specs.Prelude.{◌≡◌, ℕ, ◌+◌, ◌<◌, List, [], ◌∷◌, ◌++◌, map, ◌≢◌}
+use Rattle.std.specs.Prelude.{ℕ, ◌+◌, ◌<◌, List, [], ◌∷◌, ◌++◌, map, ◌≢◌}
 use Rattle.events.specs.Marks.{sum_of}
 use Rattle.graph.specs.declared.kind.Kind.{Kind}
 use Rattle.graph.specs.declared.kind.Kind.TheVariants.{Condition, Milestone, Response, Include, Exclude}

@@ -1,5 +1,4 @@
 -- The number, the layer and the line of each fault.
-use Rattle.std.specs.Prelude.{ℕ}
 use Rattle.lexer.specs.declared.fault.ByteFault.TheVariants.{TooLong, Unprintable}
 use Rattle.text.specs.declared.fault.LineFault.TheVariants.{Byte, Form}
 use Rattle.text.specs.declared.fault.GraphFault.{GraphFault}

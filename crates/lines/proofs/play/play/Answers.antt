@@ -1,5 +1,4 @@
-use Rattle.std.proofs.Common.{◌<◌, min, length, refl, arith}
-use native.Mathlib.Nat.{min-le_left, min-le_right}
+use Rattle.std.proofs.Common.{◌<◌, length, refl, arith}
 use Rattle.lines.specs.Plays.{answers, lists}
 use Rattle.lines.proofs.Queueing.{answers-turn, lists-turn, rest-turn}
 use Rattle.lines.proofs.play.play.Goals as goal

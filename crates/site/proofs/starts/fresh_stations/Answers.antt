@@ -1,4 +1,4 @@
-use Rattle.std.proofs.Common.{◌≡◌, ◌+◌, length, sym, refl, ap, ◌∙◌, subst, arith, length-set}
+use Rattle.std.proofs.Common.{◌+◌, sym, refl, ap, ◌∙◌, subst, arith, length-set}
 use Rattle.protocol.specs.Station.{fresh}
 use Rattle.site.proofs.Stationing.{fresh-all, fresh-more, fresh-none, FreshBelow}
 use Rattle.site.proofs.starts.fresh_stations.Goals as goal

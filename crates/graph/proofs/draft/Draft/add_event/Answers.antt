@@ -1,6 +1,5 @@
-use Rattle.std.proofs.Common.{◌≡◌, length, take, sym, refl, ◌∙◌, subst, arith}
+use Rattle.std.proofs.Common.{◌≡◌, length, take, refl, ◌∙◌, arith}
 use Rattle.std.proofs.lemmas.List.{length-set, length-take-le, take_more_set}
-use Rattle.events.specs.Marks.{sum_of}
 use Rattle.graph.specs.declared.event.Event.{Event}
 use Rattle.graph.specs.Held.{held}
 use Rattle.graph.proofs.Drafts.{event-taken, owners-more}

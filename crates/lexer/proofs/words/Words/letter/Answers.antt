@@ -1,4 +1,4 @@
-use Rattle.std.proofs.Common.{◌≡◌, [], ◌∷◌, length, get_or, refl, subst, rules}
+use Rattle.std.proofs.Common.{[], ◌∷◌, length, get_or, refl, subst, rules}
 use Rattle.std.specs.List.{between}
 use Rattle.lexer.specs.Words.{StandAt}
 use Rattle.lexer.proofs.Cuts.{headed}

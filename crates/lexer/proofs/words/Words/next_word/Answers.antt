@@ -1,4 +1,4 @@
-use Rattle.std.proofs.Common.{◌≡◌, ℕ, ◌+◌, ◌-◌, ◌^◌, ◌<◌, min, List, [], ◌∷◌, ◌++◌, length, get_or, sym, ◌∙◌, subst, rules}
+use Rattle.std.proofs.Common.{◌≡◌, ℕ, ◌+◌, ◌-◌, ◌^◌, ◌<◌, min, List, [], ◌∷◌, ◌++◌, length, sym, ◌∙◌, subst, rules}
 use Rattle.std.specs.List.{between}
 use Rattle.lexer.specs.Words.{StandAt}
 use Rattle.lexer.proofs.Cuts.{Cut, cut_at, headed}

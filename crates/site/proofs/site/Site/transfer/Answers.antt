@@ -1,10 +1,9 @@
-use Rattle.std.proofs.Common.{◌≡◌, ◌<◌, length, get_or, set, sym, refl, subst, arith}
+use Rattle.std.proofs.Common.{◌<◌, length, set, sym, refl, subst, arith}
 use Rattle.protocol.specs.Station.{step}
 use Rattle.stations.specs.Outgoing.{outgoing}
-use Rattle.stations.specs.Shows.{blank, shows}
 use Rattle.site.specs.Statuses.{site_of}
 use Rattle.site.specs.Transfers.{Transferred}
-use Rattle.site.proofs.Acting.{Acted, acting}
+use Rattle.site.proofs.Acting.{acting}
 use Rattle.site.proofs.Transferring.{Taken, full-stuck, taking, transferred}
 use Rattle.site.proofs.site.Site.transfer.Goals as goal
 

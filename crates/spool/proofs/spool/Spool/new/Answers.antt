@@ -1,4 +1,4 @@
-use Rattle.std.proofs.Common.{◌≡◌, ℕ, ◌<◌, ◌≤◌, length, get_or, sym, refl, ap, ◌∙◌, subst, arith}
+use Rattle.std.proofs.Common.{◌≡◌, ◌<◌, ◌≤◌, length, get_or, refl, ap, ◌∙◌, arith}
 use Rattle.spool.specs.Slots.{Cleared, SameBeyond}
 use Rattle.spool.proofs.Slots.{cleared, zeroed-laid}
 use Rattle.spool.proofs.spool.Spool.new.Goals as goal

@@ -1,5 +1,5 @@
 use Rattle.std.proofs.Common.{sym, refl, ap, ◌∙◌}
-use Rattle.lines.proofs.Placing.{at_place, none-taken, one-taken}
+use Rattle.lines.proofs.Placing.{at_place, one-taken}
 use Rattle.lines.specs.Lists.{oldest}
 use Rattle.spool.specs.Slots.{slots}
 use Rattle.spool.proofs.Slots.{beyond-kept, elsewhere, laid_kept}
