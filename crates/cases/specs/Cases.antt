@@ -1,6 +1,6 @@
 -- The worked cases. A case joins the table as one row more.
 use Rattle.std.specs.Prelude.{List, [], ◌∷◌}
-use Rattle.std.specs.List.{AllByRecursion as All}
+use Rattle.std.specs.List.{AllByRecursion}
 use Rattle.graph.specs.declared.kind.Kind.TheVariants.{Condition, Exclude, Milestone, Response}
 use Rattle.cases.specs.Rows.{Holds, Row, graph_of, relation, table, text}
 
@@ -19,4 +19,4 @@ rows =
     ∷ []
 
 abbrev pub WorkedCases : Type 0
-WorkedCases = All Holds rows
+WorkedCases = AllByRecursion Holds rows

@@ -6,7 +6,7 @@ mod command;
 mod explain;
 mod input;
 mod script;
-mod site;
+mod site_play;
 mod table;
 mod verdict;
 
@@ -25,7 +25,7 @@ fn main(rt: HostRuntime) -> anyhow::Result<()> {
         Ok(Command::Check(graph)) => check::run(&rt, graph.as_str()),
         Ok(Command::Table(graph, script)) => table::run(&rt, graph.as_str(), script.as_str()),
         Ok(Command::Site(graph, script, line)) => {
-            site::run(&rt, graph.as_str(), script.as_str(), line)
+            site_play::run(&rt, graph.as_str(), script.as_str(), line)
         }
         Err(error) => {
             rt.eprintln(error)?;

@@ -1,6 +1,6 @@
 -- Where a list of bytes is cut at the first byte of a kind: lines at byte 10, words at byte 32.
 use Rattle.std.proofs.Common.{◌≡◌, ℕ, ◌+◌, ◌-◌, ◌<◌, ◌≤◌, true, false, ◌&&◌, List, [], ◌∷◌, ◌++◌, length, get_or, take, drop, sym, refl, ap, ◌∙◌, subst, add-zero, arith}
-use Rattle.std.specs.List.{between, AllByRecursion as All}
+use Rattle.std.specs.List.{between, AllByRecursion}
 use Rattle.std.proofs.ByRecursion.{All-from_get_or}
 use Rattle.std.proofs.lemmas.List.{at_drop_all, at_drop_more, drop_all, drop-drop, drop_more, get_or-drop, get_or-take, length-drop, length-take-le, take_all, take-append-drop}
 use Rattle.std.proofs.lemmas.Slice.{between_to_end, first_rest}
@@ -9,7 +9,7 @@ use Rattle.lexer.specs.Bytes.{FirstAt, clean, printable}
 use Rattle.lexer.specs.Lines.{lines, onto}
 
 abbrev pub Without : ℕ → List ℕ → Type 0
-Without s = All (λ b. b ≡ s → ⊥)
+Without s = AllByRecursion (λ b. b ≡ s → ⊥)
 
 abbrev pub StopAt : ℕ → List ℕ → Type 0
 StopAt s tail = 0 < length tail → get_or tail 0 0 ≡ s

@@ -1,6 +1,6 @@
 -- The lines of a text put together are the text, and no other lines are.
 use Rattle.std.proofs.Common.{◌≡◌, ℕ, List, [], ◌∷◌, ◌++◌, length, sym, refl, ap, ◌∙◌, subst, inl, inr, ⊎_elim, append_assoc, arith}
-use Rattle.std.specs.List.{AllByRecursion as All}
+use Rattle.std.specs.List.{AllByRecursion}
 use Rattle.std.proofs.lemmas.List.{length_push}
 use Rattle.std.proofs.lemmas.Bool.{cases_eq, cond-true, cond-false, ne_eqb, eq-eqb}
 use Rattle.lexer.specs.Lines.{Lasting, LinesAreTheText, MakeUp, OnlyLines, ended, lines, onto}
@@ -48,12 +48,12 @@ unfolding joined
 ended-joined l [] = refl
 ended-joined l (m ∷ ls) = (λ i. l ++ 10 ∷ ended-joined m ls i) ∙ sym (append_assoc l (10 ∷ joined m ls) (10 ∷ []))
 
-lines-joined : (l : List ℕ) (ls : List (List ℕ)) → All (Without 10) (l ∷ ls) → Lasting (l ∷ ls) → lines (joined l ls) ≡ l ∷ ls
+lines-joined : (l : List ℕ) (ls : List (List ℕ)) → AllByRecursion (Without 10) (l ∷ ls) → Lasting (l ∷ ls) → lines (joined l ls) ≡ l ∷ ls
 unfolding joined
 lines-joined l [] w h = lines-last l w.0 h
 lines-joined l (m ∷ ls) w h = lines-ended l (joined m ls) w.0 ∙ (λ i. l ∷ lines-joined m ls w.1 h i)
 
-lines-of-ended : (ls : List (List ℕ)) → All (Without 10) ls → lines (ended ls) ≡ ls
+lines-of-ended : (ls : List (List ℕ)) → AllByRecursion (Without 10) ls → lines (ended ls) ≡ ls
 lines-of-ended [] w = refl
 lines-of-ended (l ∷ ls) w = lines-ended l (ended ls) w.0 ∙ (λ i. l ∷ lines-of-ended ls w.1 i)
 

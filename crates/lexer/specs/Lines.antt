@@ -1,6 +1,6 @@
 -- How a text falls into lines.
 use Rattle.std.specs.Prelude.{◌≡◌, ℕ, ◌+◌, ◌-◌, ◌^◌, ◌<◌, min, cond, ◌⊎◌, List, [], ◌∷◌, ◌++◌, length, ◌==◌, ◌≢◌}
-use Rattle.std.specs.List.{AllByRecursion as All}
+use Rattle.std.specs.List.{AllByRecursion}
 
 -- one more byte before the first line
 abbrev pub onto : ℕ → List (List ℕ) → List (List ℕ)
@@ -26,7 +26,7 @@ Lasting (l ∷ m ∷ ls) = Lasting (m ∷ ls)
 -- these lines make up the text: none holds an end of line, and put together again they are the text;
 -- a last line that is not empty may lack its end
 abbrev pub MakeUp : List (List ℕ) → List ℕ → Type 0
-MakeUp ls text = All (λ l. All (λ b. b ≢ 10) l) ls × ((ended ls ≡ text) ⊎ ((ended ls ≡ text ++ 10 ∷ []) × Lasting ls))
+MakeUp ls text = AllByRecursion (λ l. AllByRecursion (λ b. b ≢ 10) l) ls × ((ended ls ≡ text) ⊎ ((ended ls ≡ text ++ 10 ∷ []) × Lasting ls))
 
 -- the lines of a text make it up, and no other lines do
 abbrev pub LinesAreTheText : Type 0

@@ -1,6 +1,6 @@
 -- The words of a line and their places in the text.
 use Rattle.std.specs.Prelude.{◌≡◌, ℕ, ◌<◌, true, false, List, [], ◌∷◌, ◌++◌, length, take, drop, ◌≢◌, slice_index}
-use Rattle.std.specs.List.{AllByRecursion as All}
+use Rattle.std.specs.List.{AllByRecursion}
 use Rattle.lexer.specs.Numbers.{shaped}
 use Rattle.lexer.specs.declared.words.Word.{Word}
 use Rattle.lexer.specs.declared.words.Word.TheVariants.{Letter, Number, Other}
@@ -35,7 +35,7 @@ Kinded (Other at bytes) = shaped bytes.now ≡ false
 
 -- the line is a space, the word up to the next space, and what is left
 abbrev pub Follows : List ℕ → List ℕ → Word → Type 0
-Follows line tail w = (line ≡ 32 ∷ spelled w ++ tail) × All (λ b. b ≢ 32) (spelled w) × Stop tail × Kinded w
+Follows line tail w = (line ≡ 32 ∷ spelled w ++ tail) × AllByRecursion (λ b. b ≢ 32) (spelled w) × Stop tail × Kinded w
 
 -- the line is the letter and what is left
 abbrev pub Begins : List ℕ → List ℕ → Word → Type 0

@@ -7,7 +7,7 @@ use Rattle.protocol.specs.declared.call.Call.{Call}
 use Rattle.protocol.specs.declared.call.Outcome.{Outcome}
 use Rattle.protocol.specs.declared.call.Outcome.TheVariants.{Refused, Settled}
 use Rattle.protocol.specs.declared.refusal.Refusal.TheVariants.{Stray}
-use Rattle.std.specs.List.{AllByRecursion as All}
+use Rattle.std.specs.List.{AllByRecursion}
 use Rattle.std.proofs.ByRecursion.{All-append, All-weaker}
 use Rattle.protocol.specs.Sites.{Site}
 use Rattle.protocol.specs.Machine.{Machine, answers_of, heard, Replays}
@@ -42,15 +42,15 @@ outcomes_of ts = map (λ (t : Turn). t.outcome) ts
 -- what is shown of turns in a row
 pub record Along (R : Meaning) (last : Status) (o : Option Moment) (ts : List Turn) : Type 0 where
   pub replays : Replays R (machine_of o) (calls_of ts) (outcomes_of ts)
-  pub never_stray : All (λ o. o ≡ Refused Stray → ⊥) (outcomes_of ts)
-  pub few : All (λ t. length (answers_of t.outcome) ≤ 8) ts
-  pub short : All (λ t. length t.transfers ≤ 1152) ts
-  pub ends : All (λ t. (table : List Answer) (k n : ℕ) → t.outcome ≡ Settled table k n → Still t.after.site) ts
+  pub never_stray : AllByRecursion (λ o. o ≡ Refused Stray → ⊥) (outcomes_of ts)
+  pub few : AllByRecursion (λ t. length (answers_of t.outcome) ≤ 8) ts
+  pub short : AllByRecursion (λ t. length t.transfers ≤ 1152) ts
+  pub ends : AllByRecursion (λ t. (table : List Answer) (k n : ℕ) → t.outcome ≡ Settled table k n → Still t.after.site) ts
   pub sound : (x : Option Moment) × Sound R last x
-  pub coherent : All (Coherent R) (moments R o ts)
+  pub coherent : AllByRecursion (Coherent R) (moments R o ts)
   pub lists : ListsAll R o ts
 
-if-sound : (R : Meaning) (h : Status) (o : Option Moment) → Sound R h o → All (Coherent R) (if_any o)
+if-sound : (R : Meaning) (h : Status) (o : Option Moment) → Sound R h o → AllByRecursion (Coherent R) (if_any o)
 if-sound R h None s = tt
 if-sound R h (Some m) s = (s.2, tt)
 

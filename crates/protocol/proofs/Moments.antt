@@ -6,7 +6,7 @@ use Rattle.rules.specs.Rule.{Meaning}
 use Rattle.protocol.specs.declared.answer.Answer.{Answer}
 use Rattle.protocol.specs.declared.delivery.Delivery.{Delivery}
 use Rattle.protocol.specs.declared.delivery.Delivery.TheVariants.{Nothing, Carried, Answered, Stray}
-use Rattle.std.specs.List.{AllByRecursion as All}
+use Rattle.std.specs.List.{AllByRecursion}
 use Rattle.protocol.specs.Station.{Step, put_pair, is_some, is, step}
 use Rattle.protocol.specs.Queues.{Queues}
 use Rattle.protocol.specs.Sites.{Site, moved}
@@ -166,7 +166,7 @@ module _ (R : Meaning) where
         λ i. record { site = sym e i; machine = m.machine; answers = sym a i; carried = n i }
 
     pub chain-well : (m : Moment) → Coherent R m → (xs : List Transfer) (T : Site) → Chain R limit m.site xs T →
-        All (Coherent R) (after_each R m xs) × Advances m (ended m xs T) (answers_in xs)
+        AllByRecursion (Coherent R) (after_each R m xs) × Advances m (ended m xs T) (answers_in xs)
     chain-well m G [] T c =
         (tt, subst (λ (n : Moment). Advances m n []) (ended-none m T c) (record { coherent = G; gives = tt; dues = refl; opens = omega arith }))
     chain-well m G (x ∷ xs) T c =

@@ -12,7 +12,7 @@ use Rattle.protocol.specs.declared.call.Outcome.{Outcome}
 use Rattle.protocol.specs.declared.call.Outcome.TheVariants.{Refused, Opened, Nothing, Carried, Answered, Settled}
 use Rattle.protocol.specs.declared.refusal.Refusal.{Refusal}
 use Rattle.protocol.specs.declared.refusal.Refusal.TheVariants.{UnknownStation, UnknownEvent, OtherOwner, RequestOpen, MessageWaits, WrongState, Stray, ShortTable}
-use Rattle.std.specs.List.{AllByRecursion as All}
+use Rattle.std.specs.List.{AllByRecursion}
 use Rattle.protocol.specs.Station.{is_some, concerned, is_resting, begins}
 use Rattle.protocol.specs.Sites.{Site, moved}
 use Rattle.protocol.specs.Costs.{costs}
@@ -182,7 +182,7 @@ module _ (R : Meaning) (P : Proper R) (limit : ℕ) (enough : 3 ≤ limit) (m : 
     abbrev last : Moment
     last = ended R P limit enough m xs S
 
-    reached : All (Coherent R) (after_each R m xs) × Advances R m last (answers_in xs)
+    reached : AllByRecursion (Coherent R) (after_each R m xs) × Advances R m last (answers_in xs)
     reached = chain-well R P limit enough m G xs S c
 
     pub few-answers : length (answers_in xs) ≤ 8

@@ -7,7 +7,7 @@ use Rattle.protocol.specs.declared.call.Call.TheVariants.{Start, Request, Carry,
 use Rattle.protocol.specs.declared.call.Outcome.{Outcome}
 use Rattle.protocol.specs.declared.call.Outcome.TheVariants.{Settled}
 use Rattle.protocol.specs.declared.refusal.Refusal.{Refusal}
-use Rattle.std.specs.List.{AllByRecursion as All}
+use Rattle.std.specs.List.{AllByRecursion}
 use Rattle.protocol.specs.Station.{Step, put_pair, is_some, step}
 use Rattle.protocol.specs.Queues.{Queues}
 use Rattle.protocol.specs.Sites.{Site, moved}
@@ -85,7 +85,7 @@ module _ (R : Meaning) (limit : ℕ) where
   obeys-is h t (Some n) d l = (ap plain d.0, d.2)
   obeys-is h t None d l = does-is h t t.call d l
 
-  follow-is : (h g : Status) (ts : List Turn) → Follow R limit h ts g → All (λ (t : Turn). length t.transfers ≤ 1152) ts →
+  follow-is : (h g : Status) (ts : List Turn) → Follow R limit h ts g → AllByRecursion (λ (t : Turn). length t.transfers ≤ 1152) ts →
       map plain (map (λ (t : Turn). t.outcome) ts) ≡ map plain (plays R limit h (map (λ (t : Turn). t.call) ts))
   follow-is h g [] f a = refl
   follow-is h g (t ∷ ts) f a =

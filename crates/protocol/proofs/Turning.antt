@@ -6,7 +6,7 @@ use Rattle.protocol.specs.declared.call.Call.{Call}
 use Rattle.protocol.specs.declared.call.Outcome.{Outcome}
 use Rattle.protocol.specs.declared.call.Outcome.TheVariants.{Refused, Started, Opened, Nothing, Carried, Answered, Settled, Listed, Tallied}
 use Rattle.protocol.specs.declared.refusal.Refusal.TheVariants.{Stray}
-use Rattle.std.specs.List.{AllByRecursion as All}
+use Rattle.std.specs.List.{AllByRecursion}
 use Rattle.protocol.specs.Machine.{Machine, answers_of, Says}
 use Rattle.protocol.specs.Turns.{Status, Transfer, Turn, refusal}
 use Rattle.protocol.specs.Promise.{Still, Moment, during, turned, ListsAt, Closed}
@@ -29,7 +29,7 @@ pub record Turned (R : Meaning) (o : Option Moment) (t : Turn) : Type 0 where
   pub few : length (answers_of t.outcome) ≤ 8
   pub short : length t.transfers ≤ 1152
   pub ends : (table : List Answer) (k n : ℕ) → t.outcome ≡ Settled table k n → Still t.after.site
-  pub within : All (Coherent R) (during R o t.transfers)
+  pub within : AllByRecursion (Coherent R) (during R o t.transfers)
   pub lists : ListsAt R o t
 
 -- ---- outcomes of calls that carry one message at most
@@ -70,12 +70,12 @@ brief-few (Tallied owed) b = omega arith
 brief-goes_on : (r : Outcome) → Brief r → (table : List Answer) (k n : ℕ) → r ≡ Settled table k n → ⊥
 brief-goes_on r b table k n e = subst Brief e b
 
-no-moment : (R : Meaning) (o : Option Moment) → All (Coherent R) (during R o [])
+no-moment : (R : Meaning) (o : Option Moment) → AllByRecursion (Coherent R) (during R o [])
 no-moment R None = tt
 no-moment R (Some m) = tt
 
 pub brief-turn : (R : Meaning) (o : Option Moment) (c : Call) (r : Outcome) (xs : List Transfer) (g : Status) → Brief r → length xs ≤ 1152 →
-    Sound R g (turned R o (turn_of c r xs g)) → Says R (machine_of o) c r → All (Coherent R) (during R o xs) → ListsAt R o (turn_of c r xs g) →
+    Sound R g (turned R o (turn_of c r xs g)) → Says R (machine_of o) c r → AllByRecursion (Coherent R) (during R o xs) → ListsAt R o (turn_of c r xs g) →
     Turned R o (turn_of c r xs g)
 brief-turn R o c r xs g b short sound says within lists = record {
   sound = sound;

@@ -1,7 +1,7 @@
 -- What is promised of every list of calls of a site, refused ones included: nobody who reads the answers can tell it
 -- from one table.
 use Rattle.std.specs.Prelude.{◌≡◌, ℕ, suc, ◌+◌, ◌<◌, ◌≤◌, false, cond, List, [], ◌∷◌, ◌++◌, map, length, Some, None, Option, ◌≢◌}
-use Rattle.std.specs.List.{AllByRecursion as All}
+use Rattle.std.specs.List.{AllByRecursion}
 use Rattle.events.specs.Marks.{unmarked}
 use Rattle.lines.specs.Lists.{inside}
 use Rattle.rules.specs.Rule.{Lawful, Meaning}
@@ -105,20 +105,20 @@ pub record SameAnswers (R : Meaning) (calls : List Call) (outcomes : List Outcom
   -- the machine, fed the calls and the answered events, gives the same answers and refuses the same requests and starts
   pub replays : Replays R None calls outcomes
   -- 14 never comes back
-  pub never_stray : All (λ o. o ≢ Refused Stray) outcomes
+  pub never_stray : AllByRecursion (λ o. o ≢ Refused Stray) outcomes
   -- a settle gives at most eight answers, and leaves nothing waiting
-  pub few : All (λ t. length (answers_of t.outcome) ≤ 8) turns
-  pub ends : All (λ t. (table : List Answer) (k n : ℕ) → t.outcome ≡ Settled table k n → Still t.after.site) turns
+  pub few : AllByRecursion (λ t. length (answers_of t.outcome) ≤ 8) turns
+  pub ends : AllByRecursion (λ t. (table : List Answer) (k n : ℕ) → t.outcome ≡ Settled table k n → Still t.after.site) turns
 
 -- (b) at every moment at which no message waits, within a settle too
 pub record RestsAgree (R : Meaning) (turns : List Turn) : Type 0 where
-  pub rests : All (λ m. Still m.site → AtRest R m) (moments R None turns)
+  pub rests : AllByRecursion (λ m. Still m.site → AtRest R m) (moments R None turns)
   pub lists : ListsAll R None turns
 
 -- (c) messages: at every moment at which none waits those carried are what the answers cost, and no pair ever holds more than three
 pub record Counted (R : Meaning) (turns : List Turn) : Type 0 where
-  pub cost : All (λ m. Still m.site → m.carried ≡ costs R m.answers) (moments R None turns)
-  pub room : All (λ m. (a b : ℕ) → length (m.site.waits a b) ≤ 3) (moments R None turns)
+  pub cost : AllByRecursion (λ m. Still m.site → m.carried ≡ costs R m.answers) (moments R None turns)
+  pub room : AllByRecursion (λ m. (a b : ℕ) → length (m.site.waits a b) ≤ 3) (moments R None turns)
 
 -- a site as it is put together: closed, and its line has no messages but between the stations 0 to 7
 pub record Closed (h : Status) : Type 0 where

@@ -1,6 +1,6 @@
 -- The worked cases of sites. A case joins the table as one row more.
 use Rattle.std.specs.Prelude.{ℕ, List, [], ◌∷◌, length}
-use Rattle.std.specs.List.{AllByRecursion as All}
+use Rattle.std.specs.List.{AllByRecursion}
 use Rattle.graph.specs.declared.kind.Kind.TheVariants.{Condition, Response}
 use Rattle.graph.specs.Content.{Content}
 use Rattle.protocol.specs.declared.answer.Answer.{Answer}
@@ -40,4 +40,4 @@ rows =
     ∷ []
 
 abbrev pub SiteCases : Type 0
-SiteCases = All Holds rows
+SiteCases = AllByRecursion Holds rows

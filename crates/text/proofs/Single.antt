@@ -1,6 +1,6 @@
 -- A refused text has one fault.
 use Rattle.std.proofs.Common.{◌≡◌, ℕ, suc, ◌+◌, ◌⊎◌, List, [], ◌∷◌, ◌++◌, map, length, Some, None, Ok, Err, Option, Result, sym, refl, ap, ◌∙◌, subst, inl, inr, ⊎_elim, arith, MatchResult}
-use Rattle.std.specs.List.{AllByRecursion as All}
+use Rattle.std.specs.List.{AllByRecursion}
 use Rattle.std.proofs.lemmas.Bool.{both_ways}
 use Rattle.graph.specs.declared.graph.Graph.{Graph}
 use Rattle.graph.specs.Content.{Content}
@@ -15,7 +15,7 @@ use Rattle.text.specs.Reading.{Faulty, FirstFault, Refused, SoFar, Unfinished, W
 use Rattle.text.proofs.Writings.{clean-written, declarations-same, fits-declared, follows, map_same, no-fault, not-refused, one-writing, split-map, written_same}
 
 -- of two such beginnings of one list, one goes on from the other
-one_way : {A B : Type 0} (f : A → B) (P : A → Type 0) → ((x y : A) → P x → P y → f x ≡ f y → x ≡ y) → (xs ys : List A) (l m : B) (ls ms : List B) → All P xs → All P ys → map f xs ++ l ∷ ls ≡ map f ys ++ m ∷ ms →
+one_way : {A B : Type 0} (f : A → B) (P : A → Type 0) → ((x y : A) → P x → P y → f x ≡ f y → x ≡ y) → (xs ys : List A) (l m : B) (ls ms : List B) → AllByRecursion P xs → AllByRecursion P ys → map f xs ++ l ∷ ls ≡ map f ys ++ m ∷ ms →
     ((xs ≡ ys) × (l ≡ m)) ⊎ (((i : A) × (zs : List A) × (ys ≡ xs ++ i ∷ zs) × (l ≡ f i) × P i) ⊎ ((i : A) × (zs : List A) × (xs ≡ ys ++ i ∷ zs) × (m ≡ f i) × P i))
 one_way f P inj [] [] l m ls ms px py e = let h : l ≡ m = cc in inl (refl, h)
 one_way f P inj [] (y ∷ ys) l m ls ms px py e = let h : l ≡ f y = cc in inr (inl (y, ys, refl, h, py.0))

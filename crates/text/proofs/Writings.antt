@@ -1,6 +1,6 @@
 -- A text that writes a graph down is not refused, and writes one graph.
 use Rattle.std.proofs.Common.{◌≡◌, ℕ, suc, ◌+◌, ◌<◌, ◌≤◌, true, false, cond, not, ◌||◌, eqb, ltb, ◌⊎◌, List, [], ◌∷◌, ◌++◌, map, length, Some, None, Option, sym, refl, ap, ◌∙◌, subst, inl, inr, ⊎_elim, append-nil, arith}
-use Rattle.std.specs.List.{AllByRecursion as All}
+use Rattle.std.specs.List.{AllByRecursion}
 use Rattle.std.proofs.ByRecursion.{All-append, All-from_get_or}
 use Rattle.std.proofs.lemmas.List.{get_or_append_left, get_or_at, length-append}
 use Rattle.std.proofs.lemmas.Bool.{and_from, and_parts, both_ways, cases_Bool, cond-false, eq-eqb, le-leb, le-ltb, leb-true, lt-ltb, ne_eqb, or_cases}
@@ -27,7 +27,7 @@ use Rattle.lexer.proofs.Numerals.{digits-shaped}
 use Rattle.text.proofs.Fields.{field-same, letter-apart, stop-none}
 
 -- the part of a list that begins as another list does
-pub split-map : {A B : Type 0} (f : A → B) (P : A → Type 0) → ((x y : A) → P x → P y → f x ≡ f y → x ≡ y) → (xs ys : List A) (l : B) (rest : List B) → All P xs → All P ys → map f xs ≡ map f ys ++ l ∷ rest → (i : A) × (zs : List A) × (xs ≡ ys ++ i ∷ zs) × (l ≡ f i) × P i
+pub split-map : {A B : Type 0} (f : A → B) (P : A → Type 0) → ((x y : A) → P x → P y → f x ≡ f y → x ≡ y) → (xs ys : List A) (l : B) (rest : List B) → AllByRecursion P xs → AllByRecursion P ys → map f xs ≡ map f ys ++ l ∷ rest → (i : A) × (zs : List A) × (xs ≡ ys ++ i ∷ zs) × (l ≡ f i) × P i
 split-map f P inj [] [] l rest px py e = absurd (let z : ◌≡◌ {A = ℕ} 0 (suc (length rest)) = ap length e in omega arith)
 split-map f P inj [] (y ∷ ys) l rest px py e = absurd (let z : ◌≡◌ {A = ℕ} 0 (suc (length (map f ys ++ l ∷ rest))) = ap length e in omega arith)
 split-map f P inj (x ∷ xs) [] l rest px py e = let h : l ≡ f x = cc in (x, xs, refl, h, px.0)
@@ -38,7 +38,7 @@ split-map f P inj (x ∷ xs) (y ∷ ys) l rest px py e =
     let s = inj x y px.0 py.0 h in
     (r.0, r.1, (λ i. s i ∷ r.2 i), r.3, r.4)
 
-pub map_same : {A B : Type 0} (f : A → B) (P : A → Type 0) → ((x y : A) → P x → P y → f x ≡ f y → x ≡ y) → (xs ys : List A) → All P xs → All P ys → map f xs ≡ map f ys → xs ≡ ys
+pub map_same : {A B : Type 0} (f : A → B) (P : A → Type 0) → ((x y : A) → P x → P y → f x ≡ f y → x ≡ y) → (xs ys : List A) → AllByRecursion P xs → AllByRecursion P ys → map f xs ≡ map f ys → xs ≡ ys
 map_same f P inj [] [] px py e = refl
 map_same f P inj [] (y ∷ ys) px py e = absurd (let z : ◌≡◌ {A = ℕ} 0 (suc (length (map f ys))) = ap length e in omega arith)
 map_same f P inj (x ∷ xs) [] px py e = absurd (let z : ◌≡◌ {A = ℕ} (suc (length (map f xs))) 0 = ap length e in omega arith)
@@ -140,7 +140,7 @@ related_same p q _ _ e =
     let b : p.to ≡ q.to = cc in
     (λ i. record { kind = k i; from = a i; to = b i })
 
-all-unit : (rs : List relation.Relation) → All (λ _. Unit {0}) rs
+all-unit : (rs : List relation.Relation) → AllByRecursion (λ _. Unit {0}) rs
 all-unit [] = tt
 all-unit (r ∷ rs) = (tt, all-unit rs)
 
@@ -176,11 +176,11 @@ declarations-same c d e =
     (λ i. record { stations = st i; release = rl i; events = r.0 i; relations = r.1 i })
 
 -- the numbers of a graph's declarations have at most three digits
-fits-relations : (rs : List relation.Relation) → All (λ r. (r.from < 1000) × (r.to < 1000)) rs → All Fits (map related rs)
+fits-relations : (rs : List relation.Relation) → AllByRecursion (λ r. (r.from < 1000) × (r.to < 1000)) rs → AllByRecursion Fits (map related rs)
 fits-relations [] h = tt
 fits-relations (r ∷ rs) h = (h.0, fits-relations rs h.1)
 
-fits-events : (k : ℕ) (es : List event.Event) → k + length es < 1000 → All (λ e. e.owner < 1000) es → All Fits (numbered k es)
+fits-events : (k : ℕ) (es : List event.Event) → k + length es < 1000 → AllByRecursion (λ e. e.owner < 1000) es → AllByRecursion Fits (numbered k es)
 fits-events k [] l h = tt
 fits-events k (e ∷ es) l h = ((omega arith, h.0, let few = sum-few e.marks in omega arith), fits-events (k + 1) es (omega arith) h.1)
 
@@ -188,7 +188,7 @@ release-fits : (r : Release) → release_number r < 1000
 release-fits Four = omega arith
 release-fits Six = omega arith
 
-pub fits-declarations : (c : Content) → Sound c → All Fits (declarations c)
+pub fits-declarations : (c : Content) → Sound c → AllByRecursion Fits (declarations c)
 fits-declarations c s =
     let few = s.few_stations in (
       (omega arith, release-fits c.release),
@@ -197,7 +197,7 @@ fits-declarations c s =
           (fits-relations c.relations (All-from_get_or _ c.relations blank (λ k h. let b = s.ends k h in let n = s.few_events in (omega arith, omega arith)))),
     )
 
-pub fits-declared : (before : Option Content) → SoFar before → All Fits (declared before)
+pub fits-declared : (before : Option Content) → SoFar before → AllByRecursion Fits (declared before)
 fits-declared None s = tt
 fits-declared (Some c) s = fits-declarations c s
 

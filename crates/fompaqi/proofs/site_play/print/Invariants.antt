@@ -1,5 +1,5 @@
 use Rattle.std.proofs.Common.{length}
-use Rattle.fompaqi.proofs.site.calls_of.Given as goal
+use Rattle.fompaqi.proofs.site_play.print.Given as goal
 
 -- each line leaves less of the script
 abbrev pub decreases-loop-line : goal.decreases-loop-line
