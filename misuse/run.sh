@@ -1,6 +1,6 @@
 #!/bin/sh
 # Applies each misuse/*.edit to a copy of the repository: the compiler must refuse its crate with the
-# expected error. Run it after a check, whose proved crates the copy takes over.
+# expected error. Run it after a check, whose work the copy takes over.
 root=$(cd "$(dirname "$0")/.." && pwd) || exit 2
 field() { sed -n "s/^$1: //p" "$2"; }
 
@@ -8,9 +8,8 @@ bad=0
 for edit in "$root"/misuse/*.edit; do
     name=${edit##*/} crate=$(field crate "$edit") expect=$(field expect "$edit") file=crates/$(field crate "$edit")/$(field file "$edit")
     copy=$(mktemp -d) || exit 2
-    mkdir "$copy/target"
-    cp -r "$root/crates" "$root/crates.txt" "$copy" && cp -r "$root/target/rlib" "$root/target/stamp" "$copy/target" || exit 2
-    if ! (cd "$copy" && rt check "$crate" 2>&1) | grep -q '^rt: ok'; then
+    cp -r "$root/crates" "$root/crates.txt" "$copy" || exit 2
+    if ! (cd "$copy/crates/$crate" && rt check 2>&1) | grep -q '^logic=proved'; then
         echo "$name: $crate is not proved without the edit"
         bad=1
     fi
@@ -21,7 +20,7 @@ for edit in "$root"/misuse/*.edit; do
             if (!at || index(substr(text, at + 1), old)) exit 3
             printf "%s%s%s", substr(text, 1, at - 1), ENVIRON["NEW"], substr(text, at + length(old))
         }' "$root/$file" >"$copy/$file" || { echo "$name: its old text does not stand once in $file"; exit 2; }
-    if (cd "$copy" && rt check "$crate" 2>&1) | grep -qF "$expect"; then
+    if (cd "$copy/crates/$crate" && rt check 2>&1) | grep -qF "$expect"; then
         echo "$name: refused, $expect"
     else
         echo "$name: NOT REFUSED with $expect"
