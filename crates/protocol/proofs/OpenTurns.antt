@@ -118,13 +118,13 @@ module _ (R : Meaning) (P : Proper R) (limit : ℕ) (enough : 3 ≤ limit) (m : 
         (sym (ap requested h)) tt)
 
     -- what the station says of its request, the machine says too
-    abbrev refusedBy : Bool → Option Refusal
-    refusedBy free =
+    abbrev refused_by : Bool → Option Refusal
+    refused_by free =
         unless (ltb s R.stations) UnknownStation
         (unless (ltb e R.events) UnknownEvent (unless (eqb (R.owner e) s) OtherOwner (unless free RequestOpen None)))
 
-    refuses-alike : refusedBy (is_resting (m.site.station s).request) ≡ refuses_request R m.machine s e
-    refuses-alike = ap refusedBy (alike R P.lawful P.stations limit enough B G.in_step s e)
+    refuses-alike : refused_by (is_resting (m.site.station s).request) ≡ refuses_request R m.machine s e
+    refuses-alike = ap refused_by (alike R P.lawful P.stations limit enough B G.in_step s e)
 
   -- ---- a carry
 

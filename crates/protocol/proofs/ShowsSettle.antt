@@ -76,16 +76,16 @@ module _ (R : Meaning) (L : Lawful R) (S : Site) (A : Locking) (r : Shows R S A)
   abbrev A' : Locking
   A' = freed R A a b e ok
 
-  abbrev handsTo : ℕ → ℕ → Bool
-  handsTo w f = frees R P a b f && is (next P f) w
+  abbrev hands_to : ℕ → ℕ → Bool
+  hands_to w f = frees R P a b f && is (next P f) w
 
   abbrev G : ℕ → List Note
-  G y = grants (handsTo y) (marked R P b e ok) R.events
+  G y = grants (hands_to y) (marked R P b e ok) R.events
 
   same_next : (f : ℕ) → R.owner f ≡ b → next P f ≡ next_for R A f
   same_next f o = ap {B = Option ℕ} (λ (p : ℕ → Bool). lowest p 8) (fun_ext λ w. let h = r.waiters f w in cc)
 
-  same-handing : (w f : ℕ) → handsTo w f ≡ hands_over R A a b w f
+  same-handing : (w f : ℕ) → hands_to w f ≡ hands_over R A a b w f
   same-handing w f = let h = same_next f in let i = r.holders f in grind (arith, nat_tests)
 
   marks : (f : ℕ) → (S'.station (R.owner f)).marks f ≡ A'.marks f
@@ -125,13 +125,13 @@ module _ (R : Meaning) (L : Lawful R) (S : Site) (A : Locking) (r : Shows R S A)
   others_of u y =
       ap others (queue-is u y)
       ∙ rw (ask-granting R (hands_over R A a b u) (marks_after R A b e ok) (A.phase u) y)
-      (popped-others u y (G y) (others-grants (handsTo y) (marked R P b e ok) R.events))
+      (popped-others u y (G y) (others-grants (hands_to y) (marked R P b e ok) R.events))
 
   grants_of : (u y : ℕ) → only_grants (S'.waits u y) ≡ grant_list R (A'.phase y) u
   grants_of u y =
       ap only_grants (queue-is u y)
-      ∙ popped-grants u y (G y) (only-grants (handsTo y) (marked R P b e ok) R.events)
-      ∙ granted-one R L b u y (A.phase y) (valid y) (hands_over R A a b y) (handsTo y) (marks_after R A b e ok) (marked R P b e ok) (same-handing y)
+      ∙ popped-grants u y (G y) (only-grants (hands_to y) (marked R P b e ok) R.events)
+      ∙ granted-one R L b u y (A.phase y) (valid y) (hands_over R A a b y) (hands_to y) (marks_after R A b e ok) (marked R P b e ok) (same-handing y)
       (λ f h. (lowest_by (λ w. waits_for R (A.phase w) f) 8 y (grind (arith, nat_tests))).0)
       (λ f h. grind (arith, nat_tests))
       (λ f h. let i = marks f in grind (arith, nat_tests))

@@ -3,7 +3,7 @@ ghost use Rattle.rules.specs.Releases.{ReleasesAgree, picked};
 ghost use Rattle.rules.specs.Semantics.{meant};
 ghost use Rattle.rules.specs.Words.{Rightful};
 ghost use Rattle.std.specs.Prelude.{◌≡◌};
-ghost use Rattle.graph.specs.declared.release.Release.TheVariants as Thevariants;
+ghost use Rattle.graph.specs.declared.release.Release.TheVariants as Releases;
 ghost use Rattle.rules.specs.declared.release_rule.ReleaseRule.TheVariants.{Four, Six};
 ghost use Rattle.rules.specs.Laws.{lawful-graph, stationed-graph, sized-graph, owner-few};
 
@@ -39,8 +39,8 @@ impl Rule for ReleaseRule {
     ghost meaning = { picked };
 
     ghost lawful = { elim [
-      | Four r ↦ lawful-graph r.compiled.graph Thevariants.Four
-      | Six r ↦ lawful-graph r.compiled.graph Thevariants.Six
+      | Four r ↦ lawful-graph r.compiled.graph Releases.Four
+      | Six r ↦ lawful-graph r.compiled.graph Releases.Six
     ] };
 
     ghost stationed = { elim [

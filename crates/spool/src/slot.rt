@@ -1,5 +1,5 @@
 // The 13 bytes of one pair: its count, its messages oldest first, and zeros.
-ghost use Rattle.std.specs.Prelude.{◌≡◌, ◌+◌, ◌≤◌, ltb, [], ◌∷◌, ◌++◌, length, is_ok, if◌then◌else◌, nat_lt};
+ghost use Rattle.std.specs.Prelude.{◌≡◌, ◌+◌, ◌≤◌, [], ◌∷◌, ◌++◌, length, is_ok, if◌then◌else◌, nat_lt};
 ghost use Rattle.lines.specs.Lists.{oldest, younger};
 ghost use Rattle.spool.specs.Slots.{Cleared, SameAround, SameBeyond, Slot, slot_at};
 
@@ -22,7 +22,7 @@ pub(crate) fn clear(bytes: &mut [u8])
 pub(crate) fn push(bytes: &mut [u8], at: usize, message: Message) -> Result<(), Full>
     requires { (at + 13 ≤ length bytes.old) × (Slot bytes.old at) }
     ensures answer { is_ok result ≡ nat_lt (length (slot_at bytes.old at)) 4 }
-    ensures list { slot_at bytes.new at ≡ (if ltb (length (slot_at bytes.old at)) 4 then slot_at bytes.old at ++ message ∷ [] else slot_at bytes.old at) }
+    ensures list { slot_at bytes.new at ≡ (if nat_lt (length (slot_at bytes.old at)) 4 then slot_at bytes.old at ++ message ∷ [] else slot_at bytes.old at) }
     ensures slot { Slot bytes.new at }
     ensures around { SameAround at bytes.old bytes.new }
 {

@@ -1,7 +1,7 @@
 // A pair as a queue of at most three messages.
 ghost use Rattle.lines.specs.Lists.{oldest, younger};
 ghost use Rattle.memory_line.specs.Held.{held};
-ghost use Rattle.std.specs.Prelude.{◌≡◌, ltb, [], ◌∷◌, ◌++◌, length, is_ok, if◌then◌else◌, nat_lt};
+ghost use Rattle.std.specs.Prelude.{◌≡◌, [], ◌∷◌, ◌++◌, length, is_ok, if◌then◌else◌, nat_lt};
 
 use super::Pair;
 use lines::line::Full;
@@ -31,7 +31,7 @@ impl Pair {
 
     pub(crate) fn push(&mut self, message: Message) -> Result<(), Full>
         ensures answer { is_ok result ≡ nat_lt (length (held self.old)) 3 }
-        ensures list { held self.new ≡ (if ltb (length (held self.old)) 3 then held self.old ++ message ∷ [] else held self.old) }
+        ensures list { held self.new ≡ (if nat_lt (length (held self.old)) 3 then held self.old ++ message ∷ [] else held self.old) }
     {
         if self.count >= 3 {
             return Err(Full);
