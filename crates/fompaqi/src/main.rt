@@ -15,7 +15,7 @@ use command::Command;
 use std::env;
 use std::process::ExitCode;
 
-/// A command that fails has said why, so that nothing more is printed here.
+/// What is wrong with the words, the files or the graph has been said, so that nothing is printed here.
 fn main(rt: HostRuntime) -> ExitCode {
     match run(&rt) {
         Ok(()) => ExitCode::SUCCESS,
