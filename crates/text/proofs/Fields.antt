@@ -42,6 +42,10 @@ field-same n m t u ln lm st su e =
 pub stop-none : Stop []
 stop-none h = absurd (omega arith)
 
+-- a field that stands alone is one number
+pub field-is : (n m : ℕ) → n < 1000 → m < 1000 → field n ≡ field m → n ≡ m
+field-is n m ln lm e = (field-same n m [] [] ln lm stop-none stop-none (append-nil (field n) ∙ e ∙ sym (append-nil (field m)))).0
+
 pub last_none : (rest : List ℕ) → NoField rest → NoLast rest
 last_none rest h n lt e = h n [] lt stop-none (e ∙ sym (append-nil (field n)))
 

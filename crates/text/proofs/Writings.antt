@@ -24,7 +24,7 @@ use Rattle.lexer.specs.Numbers.{digit_from, digits, shaped}
 use Rattle.text.specs.Declarations.{Fits, declarations, field, letter_of, numbered, related, written}
 use Rattle.text.specs.Reading.{Faulty, FirstFault, Refused, SoFar, Writes, breaks, complete, declared}
 use Rattle.lexer.proofs.Numerals.{digits-shaped}
-use Rattle.text.proofs.Fields.{field-same, letter-apart, stop-none}
+use Rattle.text.proofs.Fields.{field-is, field-same, letter-apart, stop-none}
 
 -- the part of a list that begins as another list does
 pub split-map : {A B : Type 0} (f : A → B) (P : A → Type 0) → ((x y : A) → P x → P y → f x ≡ f y → x ≡ y) → (xs ys : List A) (l : B) (rest : List B) → AllByRecursion P xs → AllByRecursion P ys → map f xs ≡ map f ys ++ l ∷ rest → (i : A) × (zs : List A) × (xs ≡ ys ++ i ∷ zs) × (l ≡ f i) × P i
@@ -61,11 +61,10 @@ back Response = refl
 back Include = refl
 back Exclude = refl
 
-two-same : (a b c d : ℕ) → (a < 1000) × (b < 1000) → (c < 1000) × (d < 1000) → field a ++ field b ≡ field c ++ field d → (a ≡ c) × (b ≡ d)
+pub two-same : (a b c d : ℕ) → (a < 1000) × (b < 1000) → (c < 1000) × (d < 1000) → field a ++ field b ≡ field c ++ field d → (a ≡ c) × (b ≡ d)
 two-same a b c d f g e =
     let p = field-same a c (field b) (field d) f.0 g.0 (λ _. refl) (λ _. refl) e in
-    let q = field-same b d [] [] f.1 g.1 stop-none stop-none (append-nil (field b) ∙ p.1 ∙ sym (append-nil (field d))) in
-    (p.0, q.0)
+    (p.0, field-is b d f.1 g.1 p.1)
 
 -- a line writes one item
 pub written_same : (i j : Declaration) → Fits i → Fits j → written i ≡ written j → i ≡ j
@@ -110,11 +109,11 @@ clean-shaped (a ∷ b ∷ c ∷ []) e =
     and_from _ _ (printable-digit 49 a (omega arith) q.0) (and_from _ _ (printable-digit 48 b (omega arith) q.1) (and_from _ _ (printable-digit 48 c (omega arith) p.1) refl))
 clean-shaped (a ∷ b ∷ c ∷ d ∷ ds) e = absurd (both_ways false refl e)
 
-clean-append : (xs ys : List ℕ) → clean xs ≡ true → clean ys ≡ true → clean (xs ++ ys) ≡ true
+pub clean-append : (xs ys : List ℕ) → clean xs ≡ true → clean ys ≡ true → clean (xs ++ ys) ≡ true
 clean-append [] ys a b = b
 clean-append (x ∷ xs) ys a b = let p = and_parts _ _ a in and_from _ _ p.0 (clean-append xs ys p.1 b)
 
-clean-field : (n : ℕ) → n < 1000 → clean (field n) ≡ true
+pub clean-field : (n : ℕ) → n < 1000 → clean (field n) ≡ true
 clean-field n h = clean-shaped (digits n) (digits-shaped n h).0
 
 letter-printable : (k : Kind) → printable (letter_of k) ≡ true

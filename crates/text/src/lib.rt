@@ -5,3 +5,5 @@ pub mod builder;
 pub mod declaration;
 pub mod fault;
 mod parser;
+
+pub use parser::{last_field, two_fields};

@@ -38,7 +38,7 @@ fn field(words: &mut Words) -> Option<u16>
 }
 
 /// The one field that ends a line.
-fn last_field(words: &mut Words) -> Option<u16>
+pub fn last_field(words: &mut Words) -> Option<u16>
     ensures { MatchOption result (NoLast words.old.rest.now) (λ n. (n < 1000) × (words.old.rest.now ≡ field n)) }
 {
     let n = field(words)?;
@@ -48,7 +48,8 @@ fn last_field(words: &mut Words) -> Option<u16>
     Some(n)
 }
 
-fn two_fields(words: &mut Words) -> Option<(u16, u16)>
+/// The two fields that end a line.
+pub fn two_fields(words: &mut Words) -> Option<(u16, u16)>
     ensures { MatchOption result (NoPair words.old.rest.now)
         (λ p. (p.0 < 1000) × (p.1 < 1000) × (words.old.rest.now ≡ field p.0 ++ field p.1)) }
 {
