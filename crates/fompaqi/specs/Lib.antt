@@ -1,1 +1,4 @@
 pub mod Verdicts
+pub mod Shown
+pub mod Scripts
+pub mod ScriptLaws

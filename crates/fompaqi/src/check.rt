@@ -1,3 +1,7 @@
+ghost use Rattle.std.specs.Prelude.{◌≡◌, ◌<◌, ◌≤◌, true, length, IfOk, string_bytes};
+ghost use Rattle.fompaqi.specs.Shown.{shown_byte, shown_line};
+ghost use Rattle.lexer.specs.Bytes.{clean};
+
 use crate::explain::rule;
 use crate::input::{GRAPH_BYTES, text_of};
 use crate::verdict::{fault_line, ok_line};
@@ -42,16 +46,27 @@ fn print_fault(rt: &HostRuntime, fault: GraphFault, text: &[u8]) -> anyhow::Resu
     Ok(())
 }
 
+/// The byte as it can be shown.
+fn shown_byte(byte: u8) -> char
+    ensures is { result ≡ shown_byte byte }
+    ensures ascii { result < 128 }
+{
+    if b' ' <= byte && byte <= b'~' {
+        byte as char
+    } else {
+        '?'
+    }
+}
+
 /// The line as it can be shown: a byte that is not printable as a question mark, and not all of a long line.
-pub fn shown(heap: Global, bytes: &[u8]) -> Result<String, AllocError> {
+pub fn shown(heap: Global, bytes: &[u8]) -> Result<String, AllocError>
+    ensures line { IfOk result (λ s. string_bytes s ≡ shown_line bytes.now) }
+    ensures same { clean bytes.now ≡ true → length bytes.now ≤ 120 → IfOk result (λ s. string_bytes s ≡ bytes.now) }
+{
     let mut text = String::new(heap);
-    for byte in bytes.iter().copied().take(SHOWN) {
-        let c = if b' ' <= byte && byte <= b'~' {
-            byte as char
-        } else {
-            '?'
-        };
-        text.push(c)?;
+    let first = &bytes[..bytes.len().min(SHOWN)];
+    for byte in first {
+        text.push(shown_byte(*byte))?;
     }
     if bytes.len() > SHOWN {
         text.push_str(" ...")?;
