@@ -1,5 +1,5 @@
 -- A message carried keeps a site and its table in step.
-use Rattle.std.proofs.Common.{◌≡◌, ℕ, suc, ◌+◌, ◌<◌, ◌≤◌, Bool, true, false, cond, not, ◌&&◌, ltb, List, [], ◌∷◌, Some, None, Option, sym, refl, ap, ◌∙◌, subst, arith}
+use Rattle.std.proofs.Common.{◌≡◌, ℕ, suc, ◌+◌, ◌<◌, ◌≤◌, Bool, true, false, cond, not, ◌&&◌, ltb, List, [], ◌∷◌, is_some, Some, None, Option, sym, refl, ap, ◌∙◌, subst, arith}
 use Rattle.std.proofs.lemmas.Bool.Decides.{nat_tests}
 use Rattle.std.proofs.lemmas.Bool.{lt-ltb, eq-eqb}
 use Rattle.events.specs.declared.marks.Marks.{Marks}
@@ -11,7 +11,7 @@ use Rattle.rules.specs.Rule.{Meaning, Lawful}
 use Rattle.rules.specs.Lowest.{Tells, lowest-tells}
 use Rattle.protocol.specs.declared.delivery.Delivery.{Delivery}
 use Rattle.protocol.specs.declared.delivery.Delivery.TheVariants.{Nothing, Carried, Answered, Stray}
-use Rattle.protocol.specs.Station.{Request, Step, put, put_pair, is_some, is, missing, asks, goes_on, had_more, granted, step}
+use Rattle.protocol.specs.Station.{Request, Step, put, put_pair, is, missing, asks, goes_on, had_more, granted, step}
 use Rattle.protocol.specs.Queues.{room_for}
 use Rattle.protocol.specs.Sites.{Site, moved}
 use Rattle.protocol.specs.Costs.{total, one, count, cost}

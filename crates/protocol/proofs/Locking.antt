@@ -1,9 +1,9 @@
 -- The protocol without queues: each station's request with its stage, the settles under way, who holds what.
-use Rattle.std.proofs.Common.{◌≡◌, ℕ, ◌<◌, Bool, true, false, cond, ◌&&◌, ◌||◌, eqb, ltb, ◌⊎◌, Some, None, Option}
+use Rattle.std.proofs.Common.{◌≡◌, ℕ, ◌<◌, Bool, true, false, cond, ◌&&◌, ◌||◌, eqb, ltb, ◌⊎◌, is_some, Some, None, Option}
 use Rattle.events.specs.declared.marks.Marks.{Marks}
 use Rattle.rules.specs.Rule.{Meaning}
 use Rattle.rules.specs.Semantics.{lowest}
-use Rattle.protocol.specs.Station.{put, put_pair, is_some, is, owns, concerned}
+use Rattle.protocol.specs.Station.{put, put_pair, is, owns, concerned}
 
 pub data Stage : Type 0 where
   requested : Stage

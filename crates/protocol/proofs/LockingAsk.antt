@@ -1,9 +1,9 @@
 -- An ask keeps the invariant.
-use Rattle.std.proofs.Common.{◌≡◌, ℕ, ◌<◌, true, false, ◌||◌, None, arith}
+use Rattle.std.proofs.Common.{◌≡◌, ℕ, ◌<◌, true, false, ◌||◌, is_some, None, arith}
 use Rattle.std.proofs.lemmas.Bool.Decides.{nat_tests}
 use Rattle.events.specs.declared.marks.Marks.{Marks}
 use Rattle.rules.specs.Rule.{Meaning, Lawful}
-use Rattle.protocol.specs.Station.{is_some, is}
+use Rattle.protocol.specs.Station.{is}
 use Rattle.protocol.proofs.Locking.{requested, busy, clear, Locking, has, waits_for, covers, is_settling, knows, Valid, view, Invariant, ask_free, ask_held}
 
 module _ (R : Meaning) (L : Lawful R) (A : Locking) (M : ℕ → Marks) (I : Invariant R A M) (a e g : ℕ) (known : ℕ → Marks)

@@ -1,9 +1,9 @@
 -- The last grant keeps the invariant, and the decision is that of the whole marking.
-use Rattle.std.proofs.Common.{◌≡◌, ℕ, ◌<◌, Bool, true, false, cond, ◌&&◌, ◌||◌, eqb, arith}
+use Rattle.std.proofs.Common.{◌≡◌, ℕ, ◌<◌, Bool, true, false, cond, ◌&&◌, ◌||◌, eqb, arith, is_some}
 use Rattle.std.proofs.lemmas.Bool.Decides.{nat_tests}
 use Rattle.events.specs.declared.marks.Marks.{Marks}
 use Rattle.rules.specs.Rule.{Meaning, Lawful}
-use Rattle.protocol.specs.Station.{put, is_some, is, concerned}
+use Rattle.protocol.specs.Station.{put, is, concerned}
 use Rattle.protocol.proofs.Lowest.{lowest-has, lowest-get}
 use Rattle.protocol.proofs.Locking.{requested, waits, given, Phase, idle, busy, clear, Locking, has, waits_for, covers, is_settling, knows, Valid, Sent, view, Invariant, done}
 

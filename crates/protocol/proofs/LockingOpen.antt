@@ -1,10 +1,10 @@
 -- A request keeps the invariant.
-use Rattle.std.proofs.Common.{◌≡◌, ℕ, ◌<◌, true, false, ◌||◌, Some, arith}
+use Rattle.std.proofs.Common.{◌≡◌, ℕ, ◌<◌, true, false, ◌||◌, is_some, Some, arith}
 use Rattle.std.proofs.lemmas.Bool.Decides.{nat_tests}
 use Rattle.events.specs.declared.marks.Marks.{Marks}
 use Rattle.rules.specs.Rule.{Meaning, Lawful}
 use Rattle.rules.specs.Lowest.{Tells}
-use Rattle.protocol.specs.Station.{is_some, is}
+use Rattle.protocol.specs.Station.{is}
 use Rattle.protocol.proofs.Locking.{idle, Locking, has, waits_for, covers, is_settling, knows, Valid, view, Invariant, begun}
 
 module _ (R : Meaning) (L : Lawful R) (A : Locking) (M : ℕ → Marks) (I : Invariant R A M) (s e g : ℕ) (known : ℕ → Marks)

@@ -1,9 +1,9 @@
 -- A settle keeps the invariant.
-use Rattle.std.proofs.Common.{◌≡◌, ℕ, ◌<◌, ◌≤◌, Bool, true, false, cond, not, ◌&&◌, ◌||◌, eqb, ◌⊎◌, Some, None, Option, refl, inl, inr, arith}
+use Rattle.std.proofs.Common.{◌≡◌, ℕ, ◌<◌, ◌≤◌, Bool, true, false, cond, not, ◌&&◌, ◌||◌, eqb, ◌⊎◌, is_some, Some, None, Option, refl, inl, inr, arith}
 use Rattle.std.proofs.lemmas.Bool.Decides.{nat_tests}
 use Rattle.events.specs.declared.marks.Marks.{Marks}
 use Rattle.rules.specs.Rule.{Meaning, Lawful}
-use Rattle.protocol.specs.Station.{is_some, is}
+use Rattle.protocol.specs.Station.{is}
 use Rattle.protocol.proofs.Lowest.{lowest-has, lowest_by}
 use Rattle.protocol.proofs.Locking.{requested, waits, given, Phase, idle, busy, clear, settling, Locking, has, waits_for, covers, is_settling, knows, Valid, Sent, view, Invariant, frees_lock, next_for, hands_over, marks_after, granting, freed}
 

@@ -1,9 +1,9 @@
 -- What the lowest number that passes a test tells.
-use Rattle.std.proofs.Common.{◌≡◌, ℕ, ◌<◌, Bool, true, false, Some, None, Option, refl, arith}
+use Rattle.std.proofs.Common.{◌≡◌, ℕ, ◌<◌, Bool, true, false, is_some, Some, None, Option, refl, arith}
 use Rattle.std.proofs.lemmas.Bool.Decides.{nat_tests}
 use Rattle.rules.specs.Semantics.{lowest}
 use Rattle.rules.specs.Lowest.{Tells, lowest-tells}
-use Rattle.protocol.specs.Station.{is_some, is}
+use Rattle.protocol.specs.Station.{is}
 
 has-tells : (p : ℕ → Bool) (n : ℕ) (o : Option ℕ) → Tells p n o → (k : ℕ) → k < n → p k ≡ true → is_some o ≡ true
 has-tells p n None h k q w = let z = h k q in grind arith

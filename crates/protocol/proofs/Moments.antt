@@ -1,5 +1,5 @@
 -- A message carried keeps the site in step with the machine.
-use Rattle.std.proofs.Common.{◌≡◌, ℕ, suc, ◌+◌, ◌≤◌, Bool, true, false, cond, not, ◌&&◌, List, [], ◌∷◌, ◌++◌, length, Some, None, Option, sym, refl, ap, ◌∙◌, subst, ap₂, append_assoc, append-nil, arith, length-append}
+use Rattle.std.proofs.Common.{◌≡◌, ℕ, suc, ◌+◌, ◌≤◌, Bool, true, false, cond, not, ◌&&◌, List, [], ◌∷◌, ◌++◌, length, is_some, Some, None, Option, sym, refl, ap, ◌∙◌, subst, ap₂, append_assoc, append-nil, arith, length-append}
 use Rattle.std.proofs.lemmas.Bool.Decides.{nat_tests}
 use Rattle.lines.specs.declared.note.Note.{Note}
 use Rattle.rules.specs.Rule.{Meaning}
@@ -7,7 +7,7 @@ use Rattle.protocol.specs.declared.answer.Answer.{Answer}
 use Rattle.protocol.specs.declared.delivery.Delivery.{Delivery}
 use Rattle.protocol.specs.declared.delivery.Delivery.TheVariants.{Nothing, Carried, Answered, Stray}
 use Rattle.std.specs.List.{AllByRecursion}
-use Rattle.protocol.specs.Station.{Step, put_pair, is_some, is, step}
+use Rattle.protocol.specs.Station.{Step, put_pair, is, step}
 use Rattle.protocol.specs.Queues.{Queues}
 use Rattle.protocol.specs.Sites.{Site, moved}
 use Rattle.protocol.specs.Costs.{total, count, cost, costs}

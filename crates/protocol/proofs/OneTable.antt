@@ -1,9 +1,9 @@
 -- What a site that keeps in step with its table shows; the theorem that its answers are those of the table.
-use Rattle.std.proofs.Common.{◌≡◌, ℕ, zero, suc, ◌+◌, ◌/◌, ◌%◌, ◌<◌, ◌≤◌, [], Some, None, Option, sym, refl, ap, ◌∙◌, inl, inr, arith}
+use Rattle.std.proofs.Common.{◌≡◌, ℕ, zero, suc, ◌+◌, ◌/◌, ◌%◌, ◌<◌, ◌≤◌, [], is_some, Some, None, Option, sym, refl, ap, ◌∙◌, inl, inr, arith}
 use Rattle.std.proofs.lemmas.Bool.{cases_lt}
 use Rattle.rules.specs.Rule.{Meaning, Lawful}
 use Rattle.rules.specs.Lowest.{Tells}
-use Rattle.protocol.specs.Station.{Request, is_some}
+use Rattle.protocol.specs.Station.{Request}
 use Rattle.protocol.specs.Costs.{one}
 use Rattle.protocol.specs.Turns.{lowest_pair}
 use Rattle.protocol.proofs.Totals.{total_ext, total-zero, zero-total, count-few}

@@ -1,5 +1,5 @@
 -- A call of an open site.
-use Rattle.std.proofs.Common.{◌≡◌, ℕ, ◌+◌, ◌<◌, ◌≤◌, Bool, true, false, not, ◌&&◌, eqb, ltb, List, [], ◌∷◌, ◌++◌, length, take, Some, None, Option, sym, refl, ap, ◌∙◌, subst, inl, inr, append-nil, arith}
+use Rattle.std.proofs.Common.{◌≡◌, ℕ, ◌+◌, ◌<◌, ◌≤◌, Bool, true, false, not, ◌&&◌, eqb, ltb, List, [], ◌∷◌, ◌++◌, length, take, is_some, Some, None, Option, sym, refl, ap, ◌∙◌, subst, inl, inr, append-nil, arith}
 use Rattle.std.proofs.lemmas.Bool.Decides.{nat_tests}
 use Rattle.std.proofs.lemmas.Bool.{cases_lt, ltb-true, eqb-true}
 use Rattle.rules.specs.Rule.{Meaning}
@@ -13,7 +13,7 @@ use Rattle.protocol.specs.declared.call.Outcome.TheVariants.{Refused, Opened, No
 use Rattle.protocol.specs.declared.refusal.Refusal.{Refusal}
 use Rattle.protocol.specs.declared.refusal.Refusal.TheVariants.{UnknownStation, UnknownEvent, OtherOwner, RequestOpen, MessageWaits, WrongState, Stray, ShortTable}
 use Rattle.std.specs.List.{AllByRecursion}
-use Rattle.protocol.specs.Station.{is_some, concerned, is_resting, begins}
+use Rattle.protocol.specs.Station.{concerned, is_resting, begins}
 use Rattle.protocol.specs.Sites.{Site, moved}
 use Rattle.protocol.specs.Costs.{costs}
 use Rattle.protocol.specs.Machine.{Machine, unless, refuses_request, requests, requested, Gives, gave, answers_of, Says, hears, listed, tallied}

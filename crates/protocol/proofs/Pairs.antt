@@ -1,8 +1,7 @@
 -- The lowest pair that holds a message.
-use Rattle.std.proofs.Common.{◌≡◌, ℕ, ◌+◌, ◌*◌, ◌/◌, ◌%◌, ◌<◌, Bool, true, false, List, [], ◌∷◌, Some, None, Option, refl, subst₂, arith}
+use Rattle.std.proofs.Common.{◌≡◌, ℕ, ◌+◌, ◌*◌, ◌/◌, ◌%◌, ◌<◌, Bool, true, false, List, [], ◌∷◌, is_some, Some, None, Option, refl, subst₂, arith}
 use Rattle.lines.specs.declared.note.Note.{Note}
 use Rattle.rules.specs.Lowest.{Tells, lowest-tells}
-use Rattle.protocol.specs.Station.{is_some}
 use Rattle.protocol.specs.Queues.{Queues}
 use Rattle.protocol.specs.Sites.{Site}
 use Rattle.protocol.specs.Turns.{holds_any, lowest_pair, waiting}

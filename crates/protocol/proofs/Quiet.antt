@@ -1,10 +1,9 @@
 -- With no message under way every station rests and every lock is free.
-use Rattle.std.proofs.Common.{◌≡◌, ℕ, zero, suc, ◌+◌, ◌<◌, ◌≤◌, true, List, [], ◌++◌, Some, None, Option, sym, refl, ap, ◌∙◌, arith}
+use Rattle.std.proofs.Common.{◌≡◌, ℕ, zero, suc, ◌+◌, ◌<◌, ◌≤◌, true, List, [], ◌++◌, is_some, Some, None, Option, sym, refl, ap, ◌∙◌, arith}
 use Rattle.std.proofs.lemmas.Bool.Decides.{nat_tests}
 use Rattle.events.specs.declared.marks.Marks.{Marks}
 use Rattle.lines.specs.declared.note.Note.{Note}
 use Rattle.rules.specs.Rule.{Meaning, Lawful}
-use Rattle.protocol.specs.Station.{is_some}
 use Rattle.protocol.specs.Sites.{Site}
 use Rattle.protocol.proofs.Locking.{requested, waits, given, Phase, idle, busy, Settling, clear, settling, Locking, has, waits_for, Invariant}
 use Rattle.protocol.proofs.LockingSettle.{waits_in}

@@ -1,12 +1,12 @@
 -- A request keeps a site and its table in step.
-use Rattle.std.proofs.Common.{◌≡◌, ℕ, ◌<◌, ◌≤◌, Bool, true, false, cond, not, ◌&&◌, ◌||◌, eqb, ltb, Some, None, Option, sym, refl, ap, ◌∙◌, arith}
+use Rattle.std.proofs.Common.{◌≡◌, ℕ, ◌<◌, ◌≤◌, Bool, true, false, cond, not, ◌&&◌, ◌||◌, eqb, ltb, is_some, Some, None, Option, sym, refl, ap, ◌∙◌, arith}
 use Rattle.std.proofs.lemmas.Bool.Decides.{nat_tests}
 use Rattle.events.specs.Marks.{unmarked}
 use Rattle.rules.specs.Rule.{Meaning, Lawful}
 use Rattle.rules.specs.Semantics.{lowest}
 use Rattle.rules.specs.Lowest.{Tells, lowest-tells}
 use Rattle.protocol.specs.declared.delivery.Delivery.TheVariants.{Nothing}
-use Rattle.protocol.specs.Station.{is_some, is_resting, begins}
+use Rattle.protocol.specs.Station.{is_resting, begins}
 use Rattle.protocol.specs.Queues.{room_for}
 use Rattle.protocol.specs.Machine.{Machine, requests}
 use Rattle.protocol.specs.Turns.{is_stray}

@@ -1,12 +1,12 @@
 -- A site beside one table, over a list of acts; and what is claimed of every such run.
-use Rattle.std.proofs.Common.{◌≡◌, ℕ, zero, suc, ◌+◌, ◌/◌, ◌%◌, ◌<◌, ◌≤◌, Bool, true, false, cond, not, ◌&&◌, ◌||◌, eqb, ltb, List, [], ◌∷◌, length, Some, None, Option}
+use Rattle.std.proofs.Common.{◌≡◌, ℕ, zero, suc, ◌+◌, ◌/◌, ◌%◌, ◌<◌, ◌≤◌, Bool, true, false, cond, not, ◌&&◌, ◌||◌, eqb, ltb, List, [], ◌∷◌, length, is_some, Some, None, Option}
 use Rattle.lines.specs.declared.note.Note.{Note}
 use Rattle.rules.specs.Rule.{Meaning, Lawful}
 use Rattle.rules.specs.Semantics.{lowest}
 use Rattle.protocol.specs.declared.answer.Answer.{Answer}
 use Rattle.protocol.specs.declared.delivery.Delivery.{Delivery}
 use Rattle.protocol.specs.declared.delivery.Delivery.TheVariants.{Nothing, Carried, Answered, Stray}
-use Rattle.protocol.specs.Station.{Request, resting, asking, Step, put_pair, is_some, is, is_resting, begins, step}
+use Rattle.protocol.specs.Station.{Request, resting, asking, Step, put_pair, is, is_resting, begins, step}
 use Rattle.protocol.specs.Queues.{Queues, room_for}
 use Rattle.protocol.specs.Sites.{Site, moved, fresh_site}
 use Rattle.protocol.specs.Costs.{total, count, cost}

@@ -1,6 +1,6 @@
 -- One table for the whole case, as a reader of the answers can follow it: the whole marking and each station's open request.
 -- It is fed the calls and, for each carry and settle, the events answered in it.
-use Rattle.std.specs.Prelude.{◌≡◌, ℕ, Bool, cond, not, ◌&&◌, List, [], ◌∷◌, take, Some, None, Option, ◌==◌, nat_lt}
+use Rattle.std.specs.Prelude.{◌≡◌, ℕ, Bool, cond, not, ◌&&◌, List, [], ◌∷◌, take, is_some, Some, None, Option, ◌==◌, nat_lt}
 use Rattle.events.specs.declared.marks.Marks.{Marks}
 use Rattle.rules.specs.Answers.{accepted}
 use Rattle.rules.specs.Rule.{Meaning}
@@ -12,7 +12,7 @@ use Rattle.protocol.specs.declared.call.Outcome.TheVariants.{Refused, Started, O
 use Rattle.protocol.specs.declared.refusal.Refusal.{Refusal}
 use Rattle.protocol.specs.declared.refusal.Refusal.TheVariants.{UnknownStation, UnknownEvent, OtherOwner, RequestOpen, WrongState}
 use Rattle.protocol.specs.EventSets.{is_enabled, is_owed, set_of}
-use Rattle.protocol.specs.Station.{is_some, owns, put}
+use Rattle.protocol.specs.Station.{owns, put}
 
 pub record Machine : Type 0 where
   pub marking : ℕ → Marks

@@ -1,5 +1,5 @@
 -- A station: its marks, its request and its lock records; and what it does at a note.
-use Rattle.std.specs.Prelude.{ℕ, zero, suc, Bool, true, false, cond, not, ◌&&◌, ◌||◌, List, [], ◌∷◌, ◌++◌, Some, None, Option, ◌==◌, nat_lt}
+use Rattle.std.specs.Prelude.{ℕ, zero, suc, Bool, true, false, cond, not, ◌&&◌, ◌||◌, List, [], ◌∷◌, ◌++◌, is_some, Some, None, Option, ◌==◌, nat_lt}
 use Rattle.events.specs.declared.marks.Marks.{Marks}
 use Rattle.events.specs.Marks.{unmarked}
 use Rattle.lines.specs.declared.note.Note.{Note}
@@ -36,10 +36,6 @@ put f i v j = cond (j == i) v (f j)
 
 abbrev pub put_pair {ℓ} : {A : Type ℓ} → (ℕ → ℕ → A) → ℕ → ℕ → A → ℕ → ℕ → A
 put_pair f a b v x y = cond (x == a && y == b) v (f x y)
-
-abbrev pub is_some : Option ℕ → Bool
-is_some None = false
-is_some (Some k) = true
 
 abbrev pub is : Option ℕ → ℕ → Bool
 is None t = false

@@ -1,5 +1,5 @@
 -- What each call of a site does: one call is one turn, and a settle is the messages that it carries.
-use Rattle.std.specs.Prelude.{◌≡◌, ℕ, ◌+◌, ◌*◌, ◌/◌, ◌%◌, ◌<◌, Bool, true, false, not, ◌&&◌, ◌⊎◌, List, [], ◌∷◌, ◌++◌, length, take, Some, None, Option, ◌==◌, nat_lt}
+use Rattle.std.specs.Prelude.{◌≡◌, ℕ, ◌+◌, ◌*◌, ◌/◌, ◌%◌, ◌<◌, Bool, true, false, not, ◌&&◌, ◌⊎◌, List, [], ◌∷◌, ◌++◌, length, take, is_some, Some, None, Option, ◌==◌, nat_lt}
 use Rattle.events.specs.declared.marks.Marks.{Marks}
 use Rattle.lines.specs.declared.note.Note.{Note}
 use Rattle.rules.specs.Rule.{Meaning}
@@ -16,7 +16,7 @@ use Rattle.protocol.specs.declared.refusal.Refusal.TheVariants.{UnknownStation, 
 use Rattle.protocol.specs.Machine.{listed, tallied, unless}
 use Rattle.protocol.specs.Queues.{Queues, room_for}
 use Rattle.protocol.specs.Sites.{Site, moved}
-use Rattle.protocol.specs.Station.{Step, begins, fresh, is_resting, is_some, put_pair, step}
+use Rattle.protocol.specs.Station.{Step, begins, fresh, is_resting, put_pair, step}
 
 -- a site, closed or open
 pub record Status : Type 0 where

@@ -1,11 +1,11 @@
 -- What single calls did, as turns.
-use Rattle.std.proofs.Common.{◌≡◌, ℕ, ◌<◌, Bool, true, false, not, ◌&&◌, ltb, List, [], ◌∷◌, Some, None, Option, sym, refl, ap, ◌∙◌, subst, ap₂, inl, inr, arith}
+use Rattle.std.proofs.Common.{◌≡◌, ℕ, ◌<◌, Bool, true, false, not, ◌&&◌, ltb, List, [], ◌∷◌, is_some, Some, None, Option, sym, refl, ap, ◌∙◌, subst, ap₂, inl, inr, arith}
 use Rattle.std.proofs.lemmas.Bool.{lt-ltb}
 use Rattle.rules.specs.Rule.{Meaning}
 use Rattle.protocol.specs.Machine.{unless}
 use Rattle.protocol.specs.Served.{Served}
 use Rattle.protocol.specs.Sites.{moved}
-use Rattle.protocol.specs.Station.{Station as Model, begins, fresh, is_some}
+use Rattle.protocol.specs.Station.{Station as Model, begins, fresh}
 use Rattle.protocol.specs.Turns.{Obeys, Status, Transfer, asking, goes, is_stray, lowest_pair, opened, refusal}
 use Rattle.protocol.specs.declared.call.Call.{Call}
 use Rattle.protocol.specs.declared.call.Call.TheVariants.{Carry, Request, Start}

@@ -1,8 +1,8 @@
 -- The lowest number that passes a test, as the sets give it.
-use Rattle.std.proofs.Common.{◌≡◌, ℕ, ◌+◌, ◌<◌, ◌≤◌, Bool, true, false, cond, not, ◌&&◌, ◌||◌, eqb, ltb, IfSome, Some, None, Option, refl, ap, add-one, arith, MatchOption}
+use Rattle.std.proofs.Common.{◌≡◌, ℕ, ◌+◌, ◌<◌, ◌≤◌, Bool, true, false, cond, not, ◌&&◌, ◌||◌, eqb, ltb, IfSome, is_some, Some, None, Option, refl, ap, add-one, arith, MatchOption}
 use Rattle.std.proofs.lemmas.Bool.Decides.{nat_tests}
 use Rattle.events.specs.Members.{LowestMember, NoMember, member, named}
-use Rattle.protocol.specs.Station.{is_some, missing}
+use Rattle.protocol.specs.Station.{missing}
 use Rattle.rules.specs.Lowest.{Tells, lowest-tells}
 use Rattle.rules.specs.Rule.{Meaning}
 use Rattle.rules.specs.Semantics.{lowest, lowest_step}

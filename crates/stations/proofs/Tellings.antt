@@ -1,12 +1,12 @@
 -- A note to each station that passes a test.
-use Rattle.std.proofs.Common.{◌≡◌, ℕ, zero, suc, ◌<◌, ◌≤◌, Bool, true, false, cond, ◌&&◌, eqb, List, [], ◌∷◌, ◌++◌, length, take, Some, None, Option, sym, refl, ap, ◌∙◌, ap₂, inl, inr, arith, length-append}
+use Rattle.std.proofs.Common.{◌≡◌, ℕ, zero, suc, ◌<◌, ◌≤◌, Bool, true, false, cond, ◌&&◌, eqb, List, [], ◌∷◌, ◌++◌, length, take, is_some, Some, None, Option, sym, refl, ap, ◌∙◌, ap₂, inl, inr, arith, length-append}
 use mathlib.Core.Path.{fun_ext}
 use Rattle.std.proofs.lemmas.List.{append_assoc, append-nil, length-take-le}
 use Rattle.std.proofs.lemmas.Bool.{and_parts, cases_eq, eqb-true}
 use Rattle.std.proofs.lemmas.Bool.Decides.{nat_tests}
 use Rattle.events.specs.Members.{LowestMember, member}
 use Rattle.lines.specs.declared.note.Note.{Note}
-use Rattle.protocol.specs.Station.{concerned, is_some, to_each}
+use Rattle.protocol.specs.Station.{concerned, to_each}
 use Rattle.protocol.specs.declared.delivery.Post.{Post}
 use Rattle.rules.specs.Lowest.{Tells, lowest-tells}
 use Rattle.rules.specs.Rule.{Lawful, Meaning}
