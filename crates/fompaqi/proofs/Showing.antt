@@ -1,8 +1,8 @@
 -- How much of a line is shown, and that a short line of printable bytes is shown as it is.
-use Rattle.std.proofs.Common.{◌≡◌, ℕ, ◌+◌, ◌<◌, ◌≤◌, true, cond, min, List, [], ◌∷◌, ◌++◌, map, length, take, codes, ltb, sym, refl, ap, ◌∙◌, ap₂, inl, inr, arith, append-nil}
+use Rattle.std.proofs.Common.{◌≡◌, ℕ, ◌<◌, ◌≤◌, true, min, List, [], ◌∷◌, ◌++◌, map, length, take, codes, sym, refl, ap, ◌∙◌, ap₂, inl, inr, arith, append-nil}
 use Rattle.std.proofs.lemmas.List.{take_all}
 use Rattle.std.proofs.lemmas.Bool.{and_parts, cases_lt, cond-false, cond-true, le-ltb, lt-ltb}
-use Rattle.lexer.specs.Bytes.{clean, printable}
+use Rattle.lexer.specs.Bytes.{clean}
 use Rattle.fompaqi.specs.Shown.{shown_byte, shown_line}
 
 -- the shorter of the line and 120 bytes

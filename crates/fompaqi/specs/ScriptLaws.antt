@@ -1,7 +1,6 @@
 -- Lines that write calls write one call each, are printable, and are not passed over.
-use Rattle.std.specs.Prelude.{◌≡◌, ℕ, ◌<◌, ◌≤◌, true, List, [], ◌∷◌, ◌++◌, length, slice_index, refl}
+use Rattle.std.specs.Prelude.{◌≡◌, ℕ, ◌≤◌, true, List, [], ◌∷◌, ◌++◌, slice_index, refl}
 use Rattle.std.proofs.Common.{sym, ap, ◌∙◌, inl, inr, arith}
-use Rattle.std.proofs.lemmas.Bool.{and_from}
 use Rattle.lexer.specs.Bytes.{clean}
 use Rattle.text.specs.Declarations.{field}
 use Rattle.text.proofs.Fields.{field-is}

@@ -46,6 +46,18 @@ Tells written Fits line PassedOver = Passed line
 Tells written Fits line (Call c) = Fits c × (line ≡ written c)
 Tells {T = T} written Fits line Unknown = (Passed line → ⊥) × ((c : T) → Fits c → line ≢ written c)
 
+-- every line is passed over or writes a call
+abbrev pub InOrder : {T : Type 0} → (T → List ℕ) → (T → Type 0) → List (List ℕ) → Type 0
+InOrder written Fits [] = Unit {0}
+InOrder {T = T} written Fits (line ∷ rest) = (Passed line ⊎ ((c : T) × Fits c × (line ≡ written c))) × InOrder written Fits rest
+
+-- the calls that the lines write, in order, the other lines left out
+abbrev pub WritesCalls : {T : Type 0} → (T → List ℕ) → (T → Type 0) → List (List ℕ) → List T → Type 0
+WritesCalls written Fits [] calls = calls ≡ []
+WritesCalls {T = T} written Fits (line ∷ rest) calls =
+    (((c : T) → Fits c → line ≢ written c) × WritesCalls written Fits rest calls)
+    ⊎ ((c : T) × (more : List T) × Fits c × (line ≡ written c) × (calls ≡ c ∷ more) × WritesCalls written Fits rest more)
+
 -- no number, and no two numbers, below 256 end the line
 abbrev pub NoNumber : List ℕ → Type 0
 NoNumber rest = (n : ℕ) → n < 256 → rest ≢ field n

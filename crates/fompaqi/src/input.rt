@@ -1,3 +1,7 @@
+ghost use Rattle.std.specs.Prelude.{◌≡◌, ◌≤◌, IfOk, length};
+ghost use Rattle.fompaqi.specs.Scripts.{InOrder};
+ghost use Rattle.lexer.specs.Lines.{lines};
+
 use crate::check::shown;
 use crate::command::USAGE;
 use crate::script::{ScriptCall, ScriptLine, script_line};
@@ -16,7 +20,9 @@ pub const GRAPH_BYTES: usize = 65_537;
 pub const SCRIPT_BYTES: usize = 1_048_577;
 
 /// The bytes of the file, or so many of them.
-fn bytes_of(rt: &HostRuntime, path: &str, most: usize) -> io::Result<Vec<u8>> {
+fn bytes_of(rt: &HostRuntime, path: &str, most: usize) -> io::Result<Vec<u8>>
+    ensures { IfOk result (λ v. length v.items ≤ most) }
+{
     let mut file = fs::open(rt, path)?;
     let mut text = vec![in rt.alloc(); 0u8; most]?;
     let mut len = 0;
@@ -35,7 +41,9 @@ fn bytes_of(rt: &HostRuntime, path: &str, most: usize) -> io::Result<Vec<u8>> {
 }
 
 /// The bytes of the file, or so many of them; where it cannot be read, that is said.
-pub fn text_of(rt: &HostRuntime, path: &str, most: usize) -> anyhow::Result<Vec<u8>> {
+pub fn text_of(rt: &HostRuntime, path: &str, most: usize) -> anyhow::Result<Vec<u8>>
+    ensures { IfOk result (λ v. length v.items ≤ most) }
+{
     match bytes_of(rt, path, most) {
         Ok(text) => Ok(text),
         Err(error) => {
@@ -62,7 +70,10 @@ pub fn graph_of(rt: &HostRuntime, path: &str) -> anyhow::Result<Graph> {
 }
 
 /// The script in the file, each line of which is a call or is passed over; another one is said.
-pub fn script_of<C: ScriptCall + Drop>(rt: &HostRuntime, path: &str) -> anyhow::Result<Vec<u8>> {
+pub fn script_of<C: ScriptCall + Drop>(rt: &HostRuntime, path: &str) -> anyhow::Result<Vec<u8>>
+    ensures few { IfOk result (λ v. length v.items ≤ 1048576) }
+    ensures in_order { IfOk result (λ v. InOrder C.written C.fits (lines v.items)) }
+{
     let script = text_of(rt, path, SCRIPT_BYTES)?;
     if script.len() >= SCRIPT_BYTES {
         eprintln!(rt; "fompaqi: the script '{path}' is longer than 1,048,576 bytes: split it")?;
@@ -77,7 +88,9 @@ fn check_script<C: ScriptCall + Drop>(
     rt: &HostRuntime,
     path: &str,
     script: &[u8],
-) -> anyhow::Result<()> {
+) -> anyhow::Result<()>
+    ensures { IfOk result (λ _. InOrder C.written C.fits (lines script.now)) }
+{
     let mut lines = Lines::new(script);
     while let Some(line) = lines.next_line() {
         if let ScriptLine::Unknown = script_line::<C>(line) {

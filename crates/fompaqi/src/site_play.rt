@@ -1,3 +1,7 @@
+ghost use Rattle.std.specs.Prelude.{IfOk};
+ghost use Rattle.fompaqi.specs.Scripts.{SiteFits, WritesCalls, site_line};
+ghost use Rattle.lexer.specs.Lines.{lines};
+
 use crate::check::shown;
 use crate::command::LineKind;
 use crate::input::{graph_of, script_of};
@@ -34,7 +38,9 @@ pub fn run(
 }
 
 /// The calls of the script, in order.
-fn calls_of(heap: Global, script: &[u8]) -> Result<Vec<Call>, AllocError> {
+fn calls_of(heap: Global, script: &[u8]) -> Result<Vec<Call>, AllocError>
+    ensures { IfOk result (λ v. WritesCalls site_line SiteFits (lines script.now) v.items) }
+{
     let mut calls = Vec::new(heap);
     let mut lines = Lines::new(script);
     while let Some(line) = lines.next_line() {

@@ -67,6 +67,7 @@ fn taken<L: Line>(heap: Global, line: &mut L, from: u8, to: u8) -> Result<String
 /// Takes and prints what waits on each pair.
 pub fn lists<L: Line>(rt: &HostRuntime, line: &mut L) -> anyhow::Result<()>
     requires { L.Line.sound line.old }
+    ensures { L.Line.sound line.new }
 {
     for pair in 0..64u8 {
         let list = taken(rt.alloc(), line, pair / 8, pair % 8)?;

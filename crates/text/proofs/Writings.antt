@@ -1,5 +1,5 @@
 -- A text that writes a graph down is not refused, and writes one graph.
-use Rattle.std.proofs.Common.{◌≡◌, ℕ, suc, ◌+◌, ◌<◌, ◌≤◌, true, false, cond, not, ◌||◌, eqb, ltb, ◌⊎◌, List, [], ◌∷◌, ◌++◌, map, length, Some, None, Option, sym, refl, ap, ◌∙◌, subst, inl, inr, ⊎_elim, append-nil, arith}
+use Rattle.std.proofs.Common.{◌≡◌, ℕ, suc, ◌+◌, ◌<◌, ◌≤◌, true, false, cond, not, ◌||◌, eqb, ltb, ◌⊎◌, List, [], ◌∷◌, ◌++◌, map, length, Some, None, Option, sym, refl, ap, ◌∙◌, subst, inl, inr, ⊎_elim, arith}
 use Rattle.std.specs.List.{AllByRecursion}
 use Rattle.std.proofs.ByRecursion.{All-append, All-from_get_or}
 use Rattle.std.proofs.lemmas.List.{get_or_append_left, get_or_at, length-append}
@@ -24,7 +24,7 @@ use Rattle.lexer.specs.Numbers.{digit_from, digits, shaped}
 use Rattle.text.specs.Declarations.{Fits, declarations, field, letter_of, numbered, related, written}
 use Rattle.text.specs.Reading.{Faulty, FirstFault, Refused, SoFar, Writes, breaks, complete, declared}
 use Rattle.lexer.proofs.Numerals.{digits-shaped}
-use Rattle.text.proofs.Fields.{field-is, field-same, letter-apart, stop-none}
+use Rattle.text.proofs.Fields.{field-is, field-same, letter-apart}
 
 -- the part of a list that begins as another list does
 pub split-map : {A B : Type 0} (f : A → B) (P : A → Type 0) → ((x y : A) → P x → P y → f x ≡ f y → x ≡ y) → (xs ys : List A) (l : B) (rest : List B) → AllByRecursion P xs → AllByRecursion P ys → map f xs ≡ map f ys ++ l ∷ rest → (i : A) × (zs : List A) × (xs ≡ ys ++ i ∷ zs) × (l ≡ f i) × P i

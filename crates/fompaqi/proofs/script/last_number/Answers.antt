@@ -1,4 +1,4 @@
-use Rattle.std.proofs.Common.{◌≡◌, sym, ◌∙◌, arith}
+use Rattle.std.proofs.Common.{sym, ◌∙◌, arith}
 use Rattle.fompaqi.proofs.script.last_number.Goals as goal
 use Rattle.text.proofs.Fields.{field-is}
 

@@ -1,4 +1,4 @@
-use Rattle.std.proofs.Common.{◌≡◌, sym, ◌∙◌, arith}
+use Rattle.std.proofs.Common.{sym, ◌∙◌, arith}
 use Rattle.text.proofs.Writings.{two-same}
 use Rattle.fompaqi.proofs.script.two_numbers.Goals as goal
 use Rattle.fompaqi.proofs.script.two_numbers.Goals.{then-a-gt255-via-then-a-gt255, then-a-gt255-via-else-a-gt255+then-b-gt255}

@@ -1,0 +1,20 @@
+use Rattle.std.proofs.Common.{[], ◌∷◌, ◌++◌, refl, sym, subst, ap, ◌∙◌, inr, append-nil, append_assoc}
+use Rattle.lexer.specs.Lines.{lines}
+use Rattle.fompaqi.specs.Scripts.{SiteFits, WritesCalls, site_line}
+use Rattle.fompaqi.proofs.site_play.calls_of.Goals as goal
+
+pub loop-line-preserved-in-Continue-1 : goal.loop-line-preserved-in-Continue-1
+loop-line-preserved-in-Continue-1 c rest w =
+    let call = c.in-Call.call in
+    let t = c.in-Call.ensures.tells in
+    let next : WritesCalls site_line SiteFits (lines c.loop-line.lines.rest.now) (call ∷ rest) =
+    subst (λ ls. WritesCalls site_line SiteFits ls (call ∷ rest)) (sym c.in-Some.ensures.line.0) (inr (call, rest, t.0, t.1, refl, w)) in
+    subst (WritesCalls site_line SiteFits (lines c.args.script.now))
+    (sym (ap (λ l. l ++ rest) c.in_ok-push.ensures.items ∙ append_assoc c.loop-line.calls.items (call ∷ []) rest))
+    (c.loop-line.invariant (call ∷ rest) next)
+
+pub returns : goal.returns
+returns c =
+    let none : WritesCalls site_line SiteFits (lines c.loop-line.lines.rest.now) [] =
+    subst (λ ls. WritesCalls site_line SiteFits ls []) (sym c.in_default.ensures.line) refl in
+    subst (WritesCalls site_line SiteFits (lines c.args.script.now)) (append-nil c.loop-line.calls.items) (c.loop-line.invariant [] none)
