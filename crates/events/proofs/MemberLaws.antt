@@ -1,7 +1,7 @@
 -- Laws of the members of sets, over any width.
 use Rattle.std.proofs.Common.{◌≡◌, ℕ, zero, suc, ◌+◌, ◌-◌, ◌*◌, ◌/◌, ◌%◌, ◌^◌, ◌<◌, ◌≤◌, true, false, cond, not, ◌&&◌, ◌||◌, eqb, ltb, sym, refl, ap, ◌∙◌, inl, inr, mod-eq_of_lt, pow-suc, div-one, arith, pow_pos, pow_mono, pow-add, shr-shr}
 use native.Mathlib.Nat.{div-eq_of_lt}
-use lib.Bits.{bit_and, bit_or, bit_xor, and_le_l, and_step, or_step, and_shr, or_shr, xor_shr, and_mask, xor_add_and}
+use lib.Bits.{bit_and, bit_or, bit_xor, and_step, or_step, and_shr, or_shr, xor_shr, and_mask, xor_add_and}
 use lib.Pow.{pow-lt, shl-shr, high, ones_split, ones_lt}
 use lib.Count.{count_trailing_zeros, under, ones, ones_step}
 use Rattle.std.proofs.lemmas.Nat.{one_shl}
@@ -145,18 +145,15 @@ one_fewer (suc e) a b m f =
     let low = f 0 in
     grind (arith, nat_tests, ones_half a, ones_half b)
 
-module _ (w a s e : ℕ) (h : a < 2 ^ w) (g : s < 2 ^ w) (single : (k : ℕ) → member s k ≡ named w e k) where
-  pub member-without : (k : ℕ) → member (bit_and a (2 ^ w - 1 - s)) k ≡ cond (named w e k) false (member a k)
-  member-without k = let p = member-minus w a s k h g in let q = single k in grind (arith, nat_tests)
-
-  pub without_fewer : member a e ≡ true → suc (ones (bit_and a (2 ^ w - 1 - s))) ≡ ones a
+-- what is left of the set a without its member e
+module _ (w a left e : ℕ) (h : a < 2 ^ w) (members : (k : ℕ) → member left k ≡ cond (named w e k) false (member a k)) where
+  pub without_fewer : member a e ≡ true → suc (ones left) ≡ ones a
   without_fewer m =
       let l = member_below w a e h m in
-      one_fewer e (bit_and a (2 ^ w - 1 - s)) a m (λ k. let p = member-without k in grind (arith, nat_tests))
+      one_fewer e left a m (λ k. let p = members k in grind (arith, nat_tests))
 
-  pub without-less : member a e ≡ true → bit_and a (2 ^ w - 1 - s) < a
-  without-less m =
+  pub without-less : left ≤ a → member a e ≡ true → left < a
+  without-less l m =
       let f = without_fewer m in
-      let same : bit_and a (2 ^ w - 1 - s) ≡ a → ones (bit_and a (2 ^ w - 1 - s)) ≡ ones a = ap ones in
-      let l = and_le_l a (2 ^ w - 1 - s) in
+      let same : left ≡ a → ones left ≡ ones a = ap ones in
       grind (arith, nat_tests)

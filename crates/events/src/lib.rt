@@ -3,16 +3,17 @@
 //! Every function takes every number: an event or a station past the word is in no set.
 #![tactic(auto)]
 
-mod byte;
-mod event_set;
 mod marking;
 mod marks;
 mod members;
-mod station_set;
+mod set;
 mod word;
 
-pub use event_set::{EventSet, event_sets_are_their_members};
 pub use marking::Marking;
-pub use marks::{Marks, sums_tell_marks_apart};
-pub use members::{EventMembers, StationMembers};
-pub use station_set::{StationSet, station_sets_are_their_members};
+pub use marks::{Marks, UnknownMarks, sums_tell_marks_apart};
+pub use members::Members;
+pub use set::{
+    EventSet, Set, StationSet, event_sets_are_their_members, sets_are_their_members,
+    station_sets_are_their_members,
+};
+pub use word::Word;

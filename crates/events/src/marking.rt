@@ -3,11 +3,11 @@ ghost use Rattle.std.specs.Prelude.{◌≡◌, ℕ, ◌&&◌, if◌then◌else�
 ghost use Rattle.events.specs.Marks.{marks, unmarked};
 ghost use Rattle.events.specs.Members.{member, named};
 
-use crate::event_set::EventSet;
 use crate::marks::Marks;
+use crate::set::EventSet;
 
-// The events with each mark.
-#[derive(Clone, Copy)]
+/// The events with each mark.
+#[derive(Clone, Copy, Default)]
 pub struct Marking {
     pub executed: EventSet,
     pub pending: EventSet,
@@ -15,15 +15,11 @@ pub struct Marking {
 }
 
 impl Marking {
-    // No mark anywhere.
+    /// No mark anywhere.
     pub fn blank() -> Marking
         ensures { (k : ℕ) → marks result k ≡ unmarked }
     {
-        Marking {
-            executed: EventSet::empty(),
-            pending: EventSet::empty(),
-            included: EventSet::empty(),
-        }
+        Marking::default()
     }
 
     pub fn marks(self, event: u8) -> Marks
@@ -46,7 +42,7 @@ impl Marking {
         }
     }
 
-    // The marks of `other` on the events of `on`, and of this marking elsewhere.
+    /// The marks of `other` on the events of `on`, and of this marking elsewhere.
     pub fn overlaid(self, other: Marking, on: EventSet) -> Marking
         ensures { (k : ℕ) → marks result k ≡ (if member on.bits k then marks other k else marks self k) }
     {
@@ -57,7 +53,7 @@ impl Marking {
         }
     }
 
-    // The marks of the events of `to`, and none elsewhere.
+    /// The marks of the events of `to`, and none elsewhere.
     pub fn restricted(self, to: EventSet) -> Marking
         ensures { (k : ℕ) → marks result k ≡ (if member to.bits k then marks self k else unmarked) }
     {
@@ -68,7 +64,7 @@ impl Marking {
         }
     }
 
-    // The events that are pending and included.
+    /// The events that are pending and included.
     pub fn owed(self) -> EventSet
         ensures { (k : ℕ) → member result.bits k ≡ ((marks self k).pending && (marks self k).included) }
     {

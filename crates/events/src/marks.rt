@@ -1,8 +1,8 @@
 // The marks of one event.
-ghost use Rattle.std.specs.Prelude.{◌≡◌, ◌<◌, ◌≤◌, MatchOption};
+ghost use Rattle.std.specs.Prelude.{◌≡◌, ◌<◌, ◌≤◌, MatchResult};
 ghost use Rattle.events.specs.Marks.{sum_of, unmarked, SumsTellMarks};
 
-#[derive(Clone, Copy)]
+#[derive(Clone, Copy, Default)]
 pub struct Marks {
     pub executed: bool,
     pub pending: bool,
@@ -13,31 +13,33 @@ impl Marks {
     pub fn none() -> Marks
         ensures { result ≡ unmarked }
     {
-        Marks {
-            executed: false,
-            pending: false,
-            included: false,
-        }
+        Marks::default()
     }
+}
 
-    // Executed counts 1, pending 2 and included 4.
-    pub fn sum(self) -> u8
-        ensures sum { result ≡ sum_of self }
-        ensures below { result < 8 }
-    {
-        let executed = if self.executed { 1 } else { 0 };
-        let pending = if self.pending { 2 } else { 0 };
-        let included = if self.included { 4 } else { 0 };
-        executed + pending + included
+// The sum of the marks: executed counts 1, pending 2 and included 4.
+impl From<Marks> for u8 {
+    ghost from_gives = { λ m sum. (sum ≡ sum_of m) × (sum < 8) };
+
+    fn from(marks: Marks) -> u8 {
+        u8::from(marks.executed) + 2 * u8::from(marks.pending) + 4 * u8::from(marks.included)
     }
+}
 
-    pub fn of_sum(sum: u16) -> Option<Marks>
-        ensures { MatchOption result (7 < sum) (λ m. (sum ≤ 7) × (sum_of m ≡ sum)) }
-    {
+/// A number that is the sum of no marks.
+#[derive(Clone, Copy)]
+pub struct UnknownMarks(pub u16);
+
+impl TryFrom<u16> for Marks {
+    type Error = UnknownMarks;
+
+    ghost try_from_gives = { λ sum r. MatchResult r (λ m. (sum ≤ 7) × (sum_of m ≡ sum)) (λ e. (7 < sum) × (e.0 ≡ sum)) };
+
+    fn try_from(sum: u16) -> Result<Marks, UnknownMarks> {
         if sum > 7 {
-            return None;
+            return Err(UnknownMarks(sum));
         }
-        Some(Marks {
+        Ok(Marks {
             executed: sum % 2 == 1,
             pending: sum / 2 % 2 == 1,
             included: sum / 4 == 1,
@@ -45,7 +47,7 @@ impl Marks {
     }
 }
 
-// The law of every sum, for proofs to cite.
+/// The law of every sum, for proofs to cite.
 pub fn sums_tell_marks_apart()
     ensures { SumsTellMarks }
 {}

@@ -1,70 +1,68 @@
-// A word of 64 bits as a set of numbers below 64.
-//
-// The number `k` is a member if the bit `k` is 1.
-ghost use Rattle.std.specs.Prelude.{◌≡◌, ℕ, suc, ◌<◌, true, false, not, ◌&&◌, ◌||◌, if◌then◌else◌, MatchOption, count_ones, nat_lt};
-ghost use Rattle.events.specs.Members.{member, named, NoMember, LowestMember};
+// The words that hold the bits of a set.
+ghost use Rattle.std.specs.Prelude.{◌≡◌, ℕ, ◌^◌, ◌<◌, ◌≤◌};
+ghost use Rattle.std.proofs.Common.{rules};
 
-pub(crate) fn none() -> u64
-    ensures { NoMember result }
-{
-    0
+/// An unsigned integer as a set of numbers below its width: a number is a member if its bit is 1.
+pub trait Word: Copy {
+    // How many bits a word has.
+    const WIDTH: u8;
+
+    ghost WIDTH: { ℕ };
+
+    // The number that the bits of a word write.
+    ghost number: { Self → ℕ };
+
+    // The same number as a word of 64 bits, on which every operation works.
+    fn widen(self) -> u64
+        ensures number { result ≡ number self }
+        ensures below { number self < 2 ^ WIDTH };
+
+    // The word that is this number.
+    fn narrow(wide: u64) -> Self
+        requires { wide < 2 ^ WIDTH }
+        ensures { number result ≡ wide };
+
+    ghost width_law: { WIDTH ≤ 64 };
+
+    ghost number_law: { (a b : Self) → number a ≡ number b → a ≡ b };
 }
 
-// The numbers below `count`, of which a word has room for 64.
-pub(crate) fn first(count: u8) -> u64
-    ensures { (k : ℕ) → member result k ≡ (nat_lt k count && nat_lt k 64) }
-{
-    if count < 64 {
-        (1u64 << count) - 1
-    } else {
-        u64::MAX
+impl Word for u8 {
+    const WIDTH: u8 = 8;
+
+    ghost WIDTH = { 8 };
+
+    ghost number = { λ n. n };
+
+    ghost width_law = { Prim.search rules };
+
+    ghost number_law = { λ a b e. e };
+
+    fn widen(self) -> u64 {
+        u64::from(self)
+    }
+
+    fn narrow(wide: u64) -> u8 {
+        wide as u8
     }
 }
 
-// The number alone, or none if the word has no place for it.
-pub(crate) fn single(number: u8) -> u64
-    ensures { (k : ℕ) → member result k ≡ named 64 number k }
-{
-    if number < 64 { 1u64 << number } else { none() }
-}
+impl Word for u64 {
+    const WIDTH: u8 = 64;
 
-pub(crate) fn has(word: u64, number: u8) -> bool
-    ensures { result ≡ member word number }
-{
-    number < 64 && (word >> number) & 1 == 1
-}
+    ghost WIDTH = { 64 };
 
-pub(crate) fn without(word: u64, number: u8) -> u64
-    ensures members { (k : ℕ) → member result k ≡ (if named 64 number k then false else member word k) }
-    ensures less { member word number ≡ true → result < word }
-    ensures fewer { member word number ≡ true → suc (count_ones result) ≡ count_ones word }
-{
-    word & !single(number)
-}
+    ghost number = { λ n. n };
 
-pub(crate) fn union(a: u64, b: u64) -> u64
-    ensures { (k : ℕ) → member result k ≡ (member a k || member b k) }
-{
-    a | b
-}
+    ghost width_law = { Prim.search rules };
 
-pub(crate) fn minus(a: u64, b: u64) -> u64
-    ensures { (k : ℕ) → member result k ≡ (member a k && not (member b k)) }
-{
-    a & !b
-}
+    ghost number_law = { λ a b e. e };
 
-pub(crate) fn common(a: u64, b: u64) -> u64
-    ensures { (k : ℕ) → member result k ≡ (member a k && member b k) }
-{
-    a & b
-}
-
-pub(crate) fn lowest(word: u64) -> Option<u8>
-    ensures { MatchOption result (NoMember word) (λ number. LowestMember 64 word number) }
-{
-    if word == 0 {
-        return None;
+    fn widen(self) -> u64 {
+        self
     }
-    Some(word.trailing_zeros() as u8)
+
+    fn narrow(wide: u64) -> u64 {
+        wide
+    }
 }

@@ -1,17 +1,20 @@
 -- How much of a line is shown, and that a short line of printable bytes is shown as it is.
-use Rattle.std.proofs.Common.{◌≡◌, ℕ, ◌<◌, ◌≤◌, true, min, List, [], ◌∷◌, ◌++◌, map, length, take, codes, sym, refl, ap, ◌∙◌, ap₂, inl, inr, arith, append-nil}
+use Rattle.std.proofs.Common.{◌≡◌, ℕ, ◌<◌, ◌≤◌, true, List, [], ◌∷◌, ◌++◌, map, length, take, codes, sym, refl, ap, ◌∙◌, ap₂, arith, append-nil}
+use Rattle.std.specs.Str.{encode_utf8_all}
 use Rattle.std.proofs.lemmas.List.{take_all}
-use Rattle.std.proofs.lemmas.Bool.{and_parts, cases_lt, cond-false, cond-true, le-ltb, lt-ltb}
+use Rattle.std.proofs.lemmas.Bool.Decides.{nat_tests}
+use Rattle.std.proofs.lemmas.Str.{encode_ascii}
+use Rattle.std.proofs.lemmas.Bool.{and_parts, cond-false, cond-true, le-ltb, lt-ltb}
 use Rattle.lexer.specs.Bytes.{clean}
 use Rattle.fompaqi.specs.Shown.{shown_byte, shown_line}
 
--- the shorter of the line and 120 bytes
-pub shown-part : (bytes : List ℕ) (m : ℕ) → m ≡ min (length bytes) 120 → take m bytes ≡ take 120 bytes
-shown-part bytes m e =
-    elim (cases_lt 120 (length bytes)) [
-      | inl l ↦ let k : m ≡ 120 = omega arith in ap (λ n. take n bytes) k
-      | inr l ↦ let k : length bytes ≤ m = omega arith in take_all m bytes k ∙ sym (take_all 120 bytes l)
-    ]
+-- what is shown is one byte for each
+shown_below : (b : ℕ) → shown_byte b < 128
+shown_below b = grind (arith, nat_tests)
+
+pub shown-ascii : (bytes : List ℕ) → encode_utf8_all (map shown_byte bytes) ≡ map shown_byte bytes
+shown-ascii [] = refl
+shown-ascii (b ∷ bs) = ap₂ (λ x xs. x ++ xs) (encode_ascii (shown_byte b) (shown_below b)) (shown-ascii bs)
 
 pub shown-long : (bytes shown : List ℕ) → 120 < length bytes → shown ≡ map shown_byte (take 120 bytes) → shown ++ codes " ..." ≡ shown_line bytes
 shown-long bytes shown l e = ap₂ (λ a b. a ++ b) e (sym (cond-true _ (codes " ...") [] (lt-ltb 120 (length bytes) l)))

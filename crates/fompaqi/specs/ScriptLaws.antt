@@ -3,12 +3,12 @@ use Rattle.std.specs.Prelude.{◌≡◌, ℕ, ◌≤◌, true, List, [], ◌∷�
 use Rattle.std.proofs.Common.{sym, ap, ◌∙◌, inl, inr, arith}
 use Rattle.lexer.specs.Bytes.{clean}
 use Rattle.text.specs.Declarations.{field}
-use Rattle.text.proofs.Fields.{field-is}
+use Rattle.text.proofs.FieldLaws.{field-is}
 use Rattle.text.proofs.Writings.{clean-append, clean-field, two-same}
 use Rattle.protocol.specs.declared.call.Call as site
 use Rattle.protocol.specs.declared.call.Call.TheVariants.{Start, Request, Carry, Settle, WorkList, Tally}
-use Rattle.fompaqi.specs.declared.script.TableCall as table
-use Rattle.fompaqi.specs.declared.script.TableCall.TheVariants as table_calls
+use Rattle.runs.specs.declared.table.TableCall as table
+use Rattle.runs.specs.declared.table.TableCall.TheVariants as table_calls
 use Rattle.fompaqi.specs.Scripts.{Passed, SiteFits, TableFits, site_line, table_line}
 
 -- what begins with a letter is not passed over

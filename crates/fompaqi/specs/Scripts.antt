@@ -1,12 +1,11 @@
 -- What the lines of a script say: a call is specified by the line that writes it.
-use Rattle.std.specs.Prelude.{◌≡◌, ◌≢◌, ℕ, ◌<◌, ◌⊎◌, List, [], ◌∷◌, ◌++◌, length, slice_index}
+use Rattle.std.specs.Prelude.{◌≡◌, ◌≢◌, ℕ, ◌<◌, ◌⊎◌, List, [], ◌∷◌, ◌++◌, Option, None, Some, Result, Ok, Err, length, slice_index}
 use Rattle.text.specs.Declarations.{field}
 use Rattle.protocol.specs.declared.call.Call as site
 use Rattle.protocol.specs.declared.call.Call.TheVariants.{Start, Request, Carry, Settle, WorkList, Tally}
-use Rattle.fompaqi.specs.declared.script.TableCall as table
-use Rattle.fompaqi.specs.declared.script.TableCall.TheVariants as table_calls
-use Rattle.fompaqi.specs.declared.script.ScriptLine.{ScriptLine}
-use Rattle.fompaqi.specs.declared.script.ScriptLine.TheVariants.{PassedOver, Call, Unknown}
+use Rattle.runs.specs.declared.table.TableCall as table
+use Rattle.runs.specs.declared.table.TableCall.TheVariants as table_calls
+use Rattle.fompaqi.specs.declared.script.NoCall.{NoCall}
 
 -- a comment begins with byte 35; a blank line has spaces at most
 abbrev pub Passed : List ℕ → Type 0
@@ -41,10 +40,10 @@ SiteFits WorkList = Unit {0}
 SiteFits (Tally s) = s < 256
 
 -- what a line is, where calls are written by their lines: it is passed over, or it writes that call, or it is neither
-abbrev pub Tells : {T : Type 0} → (T → List ℕ) → (T → Type 0) → List ℕ → ScriptLine T → Type 0
-Tells written Fits line PassedOver = Passed line
-Tells written Fits line (Call c) = Fits c × (line ≡ written c)
-Tells {T = T} written Fits line Unknown = (Passed line → ⊥) × ((c : T) → Fits c → line ≢ written c)
+abbrev pub Tells : {T : Type 0} → (T → List ℕ) → (T → Type 0) → List ℕ → Result (Option T) NoCall → Type 0
+Tells written Fits line (Ok None) = Passed line
+Tells written Fits line (Ok (Some c)) = Fits c × (line ≡ written c)
+Tells {T = T} written Fits line (Err _) = (Passed line → ⊥) × ((c : T) → Fits c → line ≢ written c)
 
 -- every line is passed over or writes a call
 abbrev pub InOrder : {T : Type 0} → (T → List ℕ) → (T → Type 0) → List (List ℕ) → Type 0

@@ -1,7 +1,12 @@
 -- The first line that a check prints.
-use Rattle.std.specs.Prelude.{ℕ, List, ◌++◌, length, codes, decimal}
+use Rattle.std.specs.Prelude.{ℕ, List, ◌++◌, Result, Ok, Err, length, codes, decimal}
+use Rattle.std.specs.Borrow.{Bor}
 use Rattle.graph.specs.Content.{Content}
+use Rattle.graph.specs.Held.{content}
+use Rattle.graph.specs.declared.graph.Graph.{Graph}
 use Rattle.graph.specs.Releases.{release_number}
+use Rattle.text.specs.Faults.{fault_text, told}
+use Rattle.text.specs.declared.fault.GraphFault.{GraphFault}
 use Rattle.text.specs.declared.fault.Report.{Report}
 
 -- ok: S stations, release R, E events, N relations
@@ -14,4 +19,9 @@ ok_line c = counts_line c.stations (release_number c.release) (length c.events) 
 
 -- fault N, layer L, line K
 abbrev pub fault_line : Report → List ℕ
-fault_line p = codes "fault " ++ (decimal p.number ++ (codes ", layer " ++ (decimal p.layer ++ (codes ", line " ++ decimal p.line))))
+fault_line = fault_text
+
+-- what is told first of a text that was read
+abbrev pub verdict_line : Result (Bor Graph) (Bor GraphFault) → List ℕ
+verdict_line (Ok graph) = ok_line (content graph.now)
+verdict_line (Err fault) = fault_line (told fault.now)

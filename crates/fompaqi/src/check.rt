@@ -3,45 +3,40 @@ ghost use Rattle.fompaqi.specs.Shown.{shown_byte, shown_line};
 ghost use Rattle.lexer.specs.Bytes.{clean};
 
 use crate::explain::rule;
+use crate::failure::Failure;
 use crate::input::{GRAPH_BYTES, text_of};
-use crate::verdict::{fault_line, ok_line};
-use anyhow::anyhow;
+use crate::verdict::Verdict;
 use lexer::lines::line_at;
 use std::alloc::{AllocError, Global};
+use std::process::ExitCode;
 use text::builder::read;
-use text::fault::GraphFault;
+use text::fault::{GraphFault, Report};
 
 /// The most bytes of a faulty line that are shown.
 const SHOWN: usize = 120;
 
 /// Reads the graph text in the file and prints what it declares, or its fault.
-pub fn run(rt: &HostRuntime, path: &str) -> anyhow::Result<()> {
+pub fn run(rt: &HostRuntime, path: &str) -> Result<ExitCode, Failure> {
     let text = text_of(rt, path, GRAPH_BYTES)?;
-    match read(text.as_slice()) {
-        Ok(graph) => {
-            rt.println(ok_line(rt.alloc(), &graph)?)?;
-            Ok(())
-        }
+    let graph = read(text.as_slice());
+    rt.println(Verdict(graph.as_ref()))?;
+    match graph {
+        Ok(_) => Ok(ExitCode::SUCCESS),
         Err(fault) => {
-            print_fault(rt, fault, text.as_slice())?;
-            Err(anyhow!("a fault"))
+            print_rule(rt, fault, text.as_slice())?;
+            Ok(ExitCode::FAILURE)
         }
     }
 }
 
-fn print_fault(rt: &HostRuntime, fault: GraphFault, text: &[u8]) -> anyhow::Result<()> {
-    let report = fault.report();
-    rt.println(fault_line(rt.alloc(), report)?)?;
-    match line_at(text, report.line) {
-        Some(bytes) if !bytes.is_empty() => {
-            let rule = rule(report, bytes.first().copied());
-            let line = shown(rt.alloc(), bytes)?;
-            println!(rt; "{rule}: {line}")?;
+/// The rule that is broken, and the line that breaks it, if there is one to show.
+fn print_rule(rt: &HostRuntime, fault: GraphFault, text: &[u8]) -> Result<(), Failure> {
+    match line_at(text, Report::from(fault).line) {
+        Some(line) if !line.is_empty() => {
+            let rule = rule(fault, line.first().copied());
+            println!(rt; "{rule}: {}", shown(rt.alloc(), line)?)?;
         }
-        _ => {
-            let rule = rule(report, None);
-            println!(rt; "{rule}")?;
-        }
+        _ => rt.println(rule(fault, None))?,
     }
     Ok(())
 }
@@ -51,7 +46,7 @@ fn shown_byte(byte: u8) -> char
     ensures is { result ≡ shown_byte byte }
     ensures ascii { result < 128 }
 {
-    if b' ' <= byte && byte <= b'~' {
+    if matches!(byte, b' '..=b'~') {
         byte as char
     } else {
         '?'
@@ -59,15 +54,13 @@ fn shown_byte(byte: u8) -> char
 }
 
 /// The line as it can be shown: a byte that is not printable as a question mark, and not all of a long line.
-pub fn shown(heap: Global, bytes: &[u8]) -> Result<String, AllocError>
+// No `Display`: a failure keeps the text, which outlives the bytes.
+pub fn shown(alloc: Global, bytes: &[u8]) -> Result<String, AllocError>
     ensures line { IfOk result (λ s. string_bytes s ≡ shown_line bytes.now) }
     ensures same { clean bytes.now ≡ true → length bytes.now ≤ 120 → IfOk result (λ s. string_bytes s ≡ bytes.now) }
 {
-    let mut text = String::new(heap);
-    let first = &bytes[..bytes.len().min(SHOWN)];
-    for byte in first {
-        text.push(shown_byte(*byte))?;
-    }
+    let first = bytes.iter().take(SHOWN).map(|byte| shown_byte(*byte));
+    let mut text: String = first.collect(alloc)?;
     if bytes.len() > SHOWN {
         text.push_str(" ...")?;
     }

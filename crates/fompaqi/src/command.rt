@@ -1,5 +1,5 @@
 use std::env::Args;
-use std::fmt;
+use thiserror::Error;
 
 pub const USAGE: &str = "usage: fompaqi check GRAPH
        fompaqi table GRAPH SCRIPT
@@ -26,8 +26,9 @@ waits', 'carried', 'answer E N W' (event, number, named event), 'K answers, M me
 The exit status is 0, or 1 for a fault or an error.";
 
 /// The line of a site.
-#[derive(Clone, Copy)]
+#[derive(Clone, Copy, Default)]
 pub enum LineKind {
+    #[default]
     Memory,
     Spool,
 }
@@ -39,112 +40,79 @@ pub enum Command {
     /// Read the graph text in that file.
     Check(String),
     /// Play a script on one table: the files of the graph and of the script.
-    Table(String, String),
+    Table {
+        graph: String,
+        script: String,
+    },
     /// Play a script on a site over that line.
-    Site(String, String, LineKind),
+    Site {
+        graph: String,
+        script: String,
+        line: LineKind,
+    },
 }
 
 /// What is wrong with the words of the command line.
-#[derive(Drop)]
+#[derive(Debug, Drop, Error)]
 pub enum UsageError {
+    #[error("no command: say what to do, as 'fompaqi check GRAPH'")]
     NoCommand,
+    #[error("unknown command '{0}': the commands are listed below")]
     Unknown(String),
+    #[error("no graph: name the file of the graph text")]
     NoGraph,
+    #[error("no script: name the file of the script after the graph")]
     NoScript,
+    #[error("unknown line '{0}': it is memory or spool")]
     UnknownLine(String),
+    #[error("unexpected word '{0}': leave it out")]
     Surplus(String),
 }
 
-impl fmt::Display for UsageError {
-    fn fmt<W: fmt::Write>(&self, f: &mut fmt::Formatter<W>) -> fmt::Result {
-        match self {
-            UsageError::NoCommand => write!(
-                f,
-                "fompaqi: no command: say what to do, as 'fompaqi check GRAPH'"
-            ),
-            UsageError::Unknown(name) => write!(
-                f,
-                "fompaqi: unknown command '{name}': the commands are listed below"
-            ),
-            UsageError::NoGraph => write!(f, "fompaqi: no graph: name the file of the graph text"),
-            UsageError::NoScript => write!(
-                f,
-                "fompaqi: no script: name the file of the script after the graph"
-            ),
-            UsageError::UnknownLine(name) => write!(
-                f,
-                "fompaqi: unknown line '{name}': it is memory or spool"
-            ),
-            UsageError::Surplus(word) => write!(
-                f,
-                "fompaqi: unexpected word '{word}': leave it out"
-            ),
+impl TryFrom<String> for LineKind {
+    type Error = UsageError;
+
+    fn try_from(name: String) -> Result<LineKind, UsageError> {
+        match name.as_str() {
+            "memory" => Ok(LineKind::Memory),
+            "spool" => Ok(LineKind::Spool),
+            _ => Err(UsageError::UnknownLine(name)),
         }
     }
 }
 
-/// The commands by their names.
-#[derive(Clone, Copy)]
-enum Name {
-    Help,
-    Check,
-    Table,
-    Site,
-}
-
-fn named(word: &str) -> Option<Name> {
-    match word {
-        "help" | "--help" | "-h" => Some(Name::Help),
-        "check" => Some(Name::Check),
-        "table" => Some(Name::Table),
-        "site" => Some(Name::Site),
-        _ => None,
+impl Command {
+    /// The command that the words after the program's name give.
+    pub fn of(words: &mut Args) -> Result<Command, UsageError> {
+        let name = words.next().ok_or(UsageError::NoCommand)?;
+        let command = match name.as_str() {
+            "help" | "--help" | "-h" => return Ok(Command::Help),
+            "check" => Command::Check(word(words, UsageError::NoGraph)?),
+            "table" => Command::Table {
+                graph: word(words, UsageError::NoGraph)?,
+                script: word(words, UsageError::NoScript)?,
+            },
+            "site" => Command::Site {
+                graph: word(words, UsageError::NoGraph)?,
+                script: word(words, UsageError::NoScript)?,
+                line: line(words)?,
+            },
+            _ => return Err(UsageError::Unknown(name)),
+        };
+        match words.next() {
+            Some(word) => Err(UsageError::Surplus(word)),
+            None => Ok(command),
+        }
     }
 }
 
-/// The command, if no word is left over.
-fn ended(words: &mut Args, command: Command) -> Result<Command, UsageError> {
-    match words.next() {
-        Some(word) => Err(UsageError::Surplus(word)),
-        None => Ok(command),
-    }
+/// The next word, or what is said where there is none.
+fn word(words: &mut Args, missing: UsageError) -> Result<String, UsageError> {
+    words.next().ok_or(missing)
 }
 
-/// The command that the words after the program's name give.
-pub fn of(words: &mut Args) -> Result<Command, UsageError> {
-    let Some(word) = words.next() else {
-        return Err(UsageError::NoCommand);
-    };
-    let Some(name) = named(word.as_str()) else {
-        return Err(UsageError::Unknown(word));
-    };
-    if let Name::Help = name {
-        return Ok(Command::Help);
-    }
-    let Some(graph) = words.next() else {
-        return Err(UsageError::NoGraph);
-    };
-    if let Name::Check = name {
-        return ended(words, Command::Check(graph));
-    }
-    let Some(script) = words.next() else {
-        return Err(UsageError::NoScript);
-    };
-    if let Name::Table = name {
-        return ended(words, Command::Table(graph, script));
-    }
-    let line = line_kind(words.next())?;
-    ended(words, Command::Site(graph, script, line))
-}
-
-/// The line that the word names; the line in memory if there is none.
-fn line_kind(word: Option<String>) -> Result<LineKind, UsageError> {
-    let Some(name) = word else {
-        return Ok(LineKind::Memory);
-    };
-    match name.as_str() {
-        "memory" => Ok(LineKind::Memory),
-        "spool" => Ok(LineKind::Spool),
-        _ => Err(UsageError::UnknownLine(name)),
-    }
+/// The line that is named, or the line in memory.
+fn line(words: &mut Args) -> Result<LineKind, UsageError> {
+    let line = words.next().map(LineKind::try_from).transpose()?;
+    Ok(line.unwrap_or_default())
 }

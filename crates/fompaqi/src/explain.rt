@@ -1,16 +1,29 @@
-use text::fault::Report;
+use graph::error::BuildError;
+use lexer::fault::ByteFault;
+use text::fault::{GraphFault, LineFault};
 
-/// The rule that the fault breaks, by the fault's number and the letter of its line, if there is a line.
-pub fn rule(report: Report, letter: Option<u8>) -> &'static str {
-    match report.number {
-        1 => "a text may have only the bytes 32 to 126 and ends of lines",
-        2 => form(letter),
-        3 => value(letter),
-        4 => order(report.line, letter),
-        5 =>
-            "a relation may stand only once, and a pair of events may not have both include (i) and exclude (x)",
-        6 => "a graph may have at most 64 events and 512 relations",
-        _ => "a text may have at most 65,536 bytes",
+/// The rule that the fault breaks, told by the letter of its line, if there is a line.
+pub fn rule(fault: GraphFault, letter: Option<u8>) -> &'static str {
+    match fault {
+        GraphFault::Line(LineFault::Byte(ByteFault::TooLong)) => {
+            "a text may have at most 65,536 bytes"
+        }
+        GraphFault::Line(LineFault::Byte(ByteFault::Unprintable(_))) => {
+            "a text may have only the bytes 32 to 126 and ends of lines"
+        }
+        GraphFault::Line(LineFault::Form(_)) => form(letter),
+        GraphFault::Order(line) => order(line, letter),
+        GraphFault::Build { error, .. } => build(error, letter),
+    }
+}
+
+fn build(error: BuildError, letter: Option<u8>) -> &'static str {
+    match error {
+        BuildError::Invalid => value(letter),
+        BuildError::Conflict => {
+            "a relation may stand only once, and a pair of events may not have both include (i) and exclude (x)"
+        }
+        BuildError::Full => "a graph may have at most 64 events and 512 relations",
     }
 }
 

@@ -1,4 +1,4 @@
-ghost use Rattle.std.specs.Prelude.{◌≡◌, ◌≢◌, ℕ, ◌<◌, ◌≤◌, true, List, ◌∷◌, ◌++◌, MatchOption, Decides};
+ghost use Rattle.std.specs.Prelude.{◌≡◌, ◌≢◌, Ok, Some, ℕ, ◌<◌, ◌≤◌, true, List, ◌∷◌, ◌++◌, MatchOption, Decides};
 ghost use Rattle.fompaqi.specs.ScriptLaws.{site-one, site-plain, table-one, table-plain};
 ghost use Rattle.fompaqi.specs.Scripts.{NoNumber, NoNumbers, Passed, SiteFits, TableFits, Tells, site_line, table_line};
 ghost use Rattle.lexer.specs.Bytes.{clean};
@@ -7,23 +7,12 @@ ghost use Rattle.text.specs.Declarations.{field};
 use lexer::lines::Line;
 use lexer::words::{Word, Words};
 use protocol::call::Call;
-use text::{last_field, two_fields};
+use runs::table::TableCall;
+use text::fields;
 
-/// A call of a table.
+/// A line that is neither a call nor passed over.
 #[derive(Clone, Copy)]
-pub enum TableCall {
-    Request(u8),
-    WorkList,
-}
-
-/// What a line of a script is.
-#[derive(Clone, Copy)]
-pub enum ScriptLine<C> {
-    /// A blank line or a comment.
-    PassedOver,
-    Call(C),
-    Unknown,
-}
+pub struct NoCall;
 
 /// A call that a script can make.
 pub trait ScriptCall: Sized {
@@ -38,8 +27,8 @@ pub trait ScriptCall: Sized {
 
     /// The call that the letter and all the words after it write.
     fn read(letter: char, words: &mut Words) -> Option<Self>
-        ensures { MatchOption result ((c : Self) → fits c → letter ∷ words.old.rest.now ≢ written c)
-            (λ c. fits c × (letter ∷ words.old.rest.now ≡ written c)) };
+        ensures { MatchOption result ((c : Self) → fits c → letter ∷ words.old.rest.bytes.now ≢ written c)
+            (λ c. fits c × (letter ∷ words.old.rest.bytes.now ≡ written c)) };
 
     // A line writes one call at most.
     ghost one: { (c d : Self) → fits c → fits d → written c ≡ written d → c ≡ d };
@@ -106,44 +95,33 @@ impl ScriptCall for Call {
 fn is_passed_over(line: &[u8]) -> bool
     ensures { Decides result (Passed line.now) }
 {
-    if let [b'#', ..] = line {
-        return true;
-    }
-    for byte in line {
-        if *byte != b' ' {
-            return false;
-        }
-    }
-    true
+    matches!(line, [b'#', ..]) || line.iter().all(|byte| *byte == b' ')
 }
 
 /// The one number from 0 to 255 that ends the line.
+// Not one function with `two_numbers`: it would need a loop in place of a `u8::try_from` for each number.
+#[tactic(auto, using(crate::proofs::Numbers::none_one))]
 fn last_number(words: &mut Words) -> Option<u8>
-    ensures { MatchOption result (NoNumber words.old.rest.now) (λ n. (n < 256) × (words.old.rest.now ≡ field n)) }
+    ensures { MatchOption result (NoNumber words.old.rest.bytes.now) (λ n. (n < 256) × (words.old.rest.bytes.now ≡ field n)) }
 {
-    let n = last_field(words)?;
-    if n > 255 {
-        return None;
-    }
-    Some(n as u8)
+    let [n] = fields::<1>(words)?;
+    u8::try_from(n).ok()
 }
 
 /// The two numbers from 0 to 255 that end the line.
+#[tactic(auto, using(crate::proofs::Numbers::none_two))]
 fn two_numbers(words: &mut Words) -> Option<(u8, u8)>
-    ensures { MatchOption result (NoNumbers words.old.rest.now)
-        (λ p. (p.0 < 256) × (p.1 < 256) × (words.old.rest.now ≡ field p.0 ++ field p.1)) }
+    ensures { MatchOption result (NoNumbers words.old.rest.bytes.now)
+        (λ p. (p.0 < 256) × (p.1 < 256) × (words.old.rest.bytes.now ≡ field p.0 ++ field p.1)) }
 {
-    let (a, b) = two_fields(words)?;
-    if a > 255 || b > 255 {
-        return None;
-    }
-    Some((a as u8, b as u8))
+    let [a, b] = fields::<2>(words)?;
+    Some((u8::try_from(a).ok()?, u8::try_from(b).ok()?))
 }
 
 /// The call that the words write: its letter, then its numbers.
 fn call<C: ScriptCall + Drop>(words: &mut Words) -> Option<C>
-    ensures { MatchOption result ((c : C) → C.fits c → words.old.rest.now ≢ C.written c)
-        (λ c. C.fits c × (words.old.rest.now ≡ C.written c)) }
+    ensures { MatchOption result ((c : C) → C.fits c → words.old.rest.bytes.now ≢ C.written c)
+        (λ c. C.fits c × (words.old.rest.bytes.now ≡ C.written c)) }
 {
     let Word::Letter { byte, .. } = words.letter()? else {
         return None;
@@ -151,19 +129,15 @@ fn call<C: ScriptCall + Drop>(words: &mut Words) -> Option<C>
     C::read(*byte as char, words)
 }
 
-/// What the line is in a script of such calls.
-pub fn script_line<C: ScriptCall + Drop>(line: Line) -> ScriptLine<C>
-    ensures tells { Tells C.written C.fits line.entry.bytes.now result }
-    ensures exact { (c : C) → C.fits c → line.entry.bytes.now ≡ C.written c → result ≡ ScriptLine.Call c }
+/// The call that the line writes, or none if the line is blank or a comment.
+pub fn script_line<C: ScriptCall + Drop>(line: Line) -> Result<Option<C>, NoCall>
+    ensures tells { Tells C.written C.fits line.entry.part.bytes.now result }
+    ensures exact { (c : C) → C.fits c → line.entry.part.bytes.now ≡ C.written c → result ≡ Ok (Some c) }
 {
-    if is_passed_over(line.bytes) {
-        return ScriptLine::PassedOver;
+    if is_passed_over(line.part.bytes) {
+        return Ok(None);
     }
-    let Ok(mut words) = Words::of(line) else {
-        return ScriptLine::Unknown;
-    };
-    match call(&mut words) {
-        Some(call) => ScriptLine::Call(call),
-        None => ScriptLine::Unknown,
-    }
+    let mut words = Words::of(line).map_err(|_| NoCall)?;
+    let call = call(&mut words).ok_or(NoCall)?;
+    Ok(Some(call))
 }

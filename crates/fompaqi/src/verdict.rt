@@ -1,42 +1,33 @@
-ghost use Rattle.fompaqi.specs.Verdicts.{counts_line, fault_line, ok_line};
-ghost use Rattle.graph.specs.Held.{content};
-ghost use Rattle.std.specs.Prelude.{◌≡◌, IfOk, string_bytes};
+ghost use Rattle.fompaqi.specs.Verdicts.{verdict_line};
+ghost use Rattle.std.specs.Prelude.{Some};
 
 use graph::graph::Graph;
-use std::alloc::{AllocError, Global};
-use text::fault::Report;
+use std::fmt;
+use text::fault::{GraphFault, Report};
 
-fn counts(
-    heap: Global,
-    stations: u8,
-    release: u8,
-    events: usize,
-    relations: usize,
-) -> Result<String, AllocError>
-    ensures { IfOk result (λ s. string_bytes s ≡ counts_line stations release events relations) }
-{
-    format!(in heap;
-        "ok: {stations} stations, release {release}, {events} events, {relations} relations"
-    )
-}
+/// What is told first of a text that was read: what it declares, or its fault.
+#[derive(Clone, Copy)]
+pub struct Verdict<'a>(pub Result<&'a Graph, &'a GraphFault>);
 
-/// What is printed of a text in order.
-pub fn ok_line(heap: Global, graph: &Graph) -> Result<String, AllocError>
-    ensures { IfOk result (λ s. string_bytes s ≡ ok_line (content graph.now)) }
-{
-    counts(
-        heap,
-        graph.stations(),
-        graph.release().number(),
-        graph.events().len(),
-        graph.relations().len(),
-    )
-}
+impl fmt::Display for Verdict<'_> {
+    ghost output = { λ verdict. Some (verdict_line verdict.0) };
 
-/// What is printed first of a text with a fault.
-pub fn fault_line(heap: Global, report: Report) -> Result<String, AllocError>
-    ensures { IfOk result (λ s. string_bytes s ≡ fault_line report) }
-{
-    let (number, layer, line) = (report.number, report.layer, report.line);
-    format!(in heap; "fault {number}, layer {layer}, line {line}")
+    fn fmt<W: fmt::Write>(&self, f: &mut fmt::Formatter<W>) -> fmt::Result {
+        match self.0 {
+            Ok(graph) => {
+                let stations = graph.stations();
+                let release = u8::from(graph.release());
+                let events = graph.events().len();
+                let relations = graph.relations().len();
+                write!(
+                    f,
+                    "ok: {stations} stations, release {release}, {events} events, {relations} relations"
+                )
+            }
+            Err(fault) => {
+                let report = Report::from(*fault);
+                write!(f, "{report}")
+            }
+        }
+    }
 }

@@ -1,6 +1,6 @@
 -- The search for a relation that clashes with a new one.
-use Rattle.std.proofs.Common.{◌≡◌, ℕ, zero, suc, ◌+◌, ◌<◌, ◌≤◌, Bool, true, false, ◌||◌, List, [], ◌∷◌, ◌++◌, length, take, drop, ap, ◌∙◌, subst, arith}
-use Rattle.std.proofs.lemmas.List.{at_drop_all, at_drop_more, get_or_append_left, get_or-take, length-take, length-take-le}
+use Rattle.std.proofs.Common.{◌≡◌, ℕ, zero, suc, ◌<◌, Bool, true, false, List, [], ◌∷◌, ◌++◌, length, subst, arith}
+use Rattle.std.proofs.lemmas.List.{get_or_append_left}
 use Rattle.std.proofs.lemmas.Bool.{both_ways, or_parts}
 use Rattle.graph.specs.declared.relation.Relation.{Relation}
 use Rattle.graph.specs.Content.{Apart, blank, clash, relation_at}
@@ -10,15 +10,6 @@ use Rattle.graph.proofs.Tables.{push}
 -- whether the relation clashes with one of those
 abbrev pub met : List Relation → Relation → Bool
 met rs r = clashing rs r.kind r.from r.to
-
-module _ (rs : List Relation) (n : ℕ) (fits : n ≤ length rs) (r : Relation) (i : ℕ) where
-  pub met-more : i < n → met (drop i (take n rs)) r ≡ (clash (relation_at rs i) r || met (drop (i + 1) (take n rs)) r)
-  met-more h =
-      let long = length-take-le n rs fits in
-      at_drop_more (λ l. met l r) (take n rs) i blank (omega arith) ∙ ap (λ x. clash x r || met (drop (i + 1) (take n rs)) r) (get_or-take n rs i blank h)
-
-pub met_all : (rs : List Relation) (n : ℕ) (r : Relation) (i : ℕ) → n ≤ i → met (drop i (take n rs)) r ≡ false
-met_all rs n r i h = at_drop_all (λ l. met l r) (take n rs) i (omega (arith, length-take n rs))
 
 unmet : (rs : List Relation) (r : Relation) → met rs r ≡ false → (i : ℕ) → i < length rs → clash (relation_at rs i) r ≡ false
 unmet [] r e i h = absurd (omega arith)

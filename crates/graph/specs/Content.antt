@@ -58,9 +58,6 @@ pub record Sound (c : Content) : Type 0 where
   pub apart : Apart c.relations
   pub milestones : NoMilestone c.release c.relations
 
--- the records past the n-th are zero
-abbrev pub BarePast : List Event → ℕ → Type 0
-BarePast es n = (i : ℕ) → n ≤ i → event_at es i ≡ bare
-
+-- the records past the n-th relation are zero
 abbrev pub BlankPast : List Relation → ℕ → Type 0
 BlankPast rs n = (i : ℕ) → n ≤ i → relation_at rs i ≡ blank

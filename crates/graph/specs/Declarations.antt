@@ -1,5 +1,6 @@
 -- What a declaration adds to a graph, and why one is refused.
-use Rattle.std.specs.Prelude.{◌≡◌, ℕ, Bool, false, cond, not, ◌&&◌, ◌||◌, List, [], ◌∷◌, ◌++◌, length, Some, None, Option, ◌==◌, nat_le, nat_lt}
+use Rattle.std.specs.Prelude.{◌≡◌, ℕ, Bool, cond, not, ◌&&◌, ◌||◌, List, [], ◌∷◌, ◌++◌, length, Some, None, Option, ◌==◌, nat_le, nat_lt}
+use Rattle.std.specs.List.{list_any}
 use Rattle.events.specs.Marks.{sum_of}
 use Rattle.graph.specs.declared.kind.Kind.{Kind}
 use Rattle.graph.specs.declared.release.Release.{Release}
@@ -46,8 +47,7 @@ fits_relation c kind from to = nat_lt from (length c.events) && nat_lt to (lengt
 
 -- the relation stands already, or an include with an exclude on its pair
 abbrev pub clashing : List Relation → Kind → ℕ → ℕ → Bool
-clashing [] kind from to = false
-clashing (r ∷ rs) kind from to = clash r (record { kind = kind; from = from; to = to }) || clashing rs kind from to
+clashing rs kind from to = list_any (λ r. clash r (record { kind = kind; from = from; to = to })) rs
 
 -- why an event, why a relation is refused, if it is
 abbrev pub event_error : Content → ℕ → ℕ → ℕ → Option BuildError

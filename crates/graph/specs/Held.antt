@@ -9,7 +9,7 @@ held d =
     record {
       stations = d.stations;
       release = d.release;
-      events = take d.events d.rows;
+      events = d.events.items;
       relations = take d.relations d.table;
     }
 

@@ -12,17 +12,8 @@ use crate::graph::Graph;
 use crate::kind::Kind;
 use crate::relation::Relation;
 use crate::release::Release;
+use arrayvec::ArrayVec;
 use events::Marks;
-
-/// The zero record of an event.
-const BARE: Event = Event {
-    owner: 0,
-    marks: Marks {
-        executed: false,
-        pending: false,
-        included: false,
-    },
-};
 
 /// The zero record of a relation.
 const BLANK: Relation = Relation {
@@ -36,33 +27,35 @@ impl Graph {
     pub fn empty() -> Graph
         ensures { content result ≡ empty_content }
     {
-        let draft = Draft {
-            stations: 1,
-            release: Release::Six,
-            rows: [BARE; 64],
-            events: 1,
-            table: [BLANK; 512],
-            relations: 0,
-        };
-        Graph { draft }
+        let mut events = ArrayVec::new();
+        events.push(Event::default());
+        Graph {
+            draft: Draft {
+                stations: 1,
+                release: Release::Six,
+                events,
+                table: [BLANK; 512],
+                relations: 0,
+            },
+        }
     }
 }
 
 impl Draft {
-    /// A draft of so many stations and that release, or none where either is out of range.
-    pub fn new(stations: u16, release: u16) -> Option<Draft>
-        ensures { MatchOption result (fits_head stations release ≡ false)
-            (λ d. (fits_head stations release ≡ true) × (release_number d.release ≡ release) × (held d ≡ begun stations d.release)) }
+    /// A draft of so many stations and that release, or `Invalid` where either is out of range.
+    pub fn new(stations: u16, release: u16) -> Result<Draft, BuildError>
+        ensures { MatchResult result
+            (λ d. (fits_head stations release ≡ true) × (release_number d.release ≡ release) × (held d ≡ begun stations d.release))
+            (λ f. (fits_head stations release ≡ false) × (f ≡ BuildError.Invalid)) }
     {
         if stations == 0 || stations > 8 {
-            return None;
+            return Err(BuildError::Invalid);
         }
-        let release = Release::of_number(release)?;
-        Some(Draft {
+        let release = Release::try_from(release)?;
+        Ok(Draft {
             stations: stations as u8,
             release,
-            rows: [BARE; 64],
-            events: 0,
+            events: ArrayVec::new(),
             table: [BLANK; 512],
             relations: 0,
         })
@@ -75,20 +68,17 @@ impl Draft {
             × ((e : AnyEvent) × Declared e owner marks × (held self.new ≡ plus_event (held self.old) e)))
             (λ f. (event_error (held self.old) number owner marks ≡ Some f) × (self.new ≡ self.old)) }
     {
-        if self.events == 64 {
+        if self.events.is_full() {
             return Err(BuildError::Full);
         }
-        if number != self.events as u16 || owner >= self.stations as u16 {
+        if number as usize != self.events.len() || owner >= self.stations as u16 {
             return Err(BuildError::Invalid);
         }
-        let Some(marks) = Marks::of_sum(marks) else {
-            return Err(BuildError::Invalid);
-        };
-        self.rows[self.events as usize] = Event {
+        let marks = Marks::try_from(marks)?;
+        self.events.push(Event {
             owner: owner as u8,
             marks,
-        };
-        self.events += 1;
+        });
         Ok(())
     }
 
@@ -96,12 +86,9 @@ impl Draft {
     fn conflicts(&self, relation: Relation) -> bool
         ensures { result ≡ clashing (held self.now).relations relation.kind relation.from relation.to }
     {
-        for i in 0..self.relations {
-            if self.table[i as usize].clashes(relation) {
-                return true;
-            }
-        }
-        false
+        self.table[..self.relations]
+            .iter()
+            .any(|other| other.clashes(relation))
     }
 
     /// Declares one relation more, or refuses it and stays as it was.
@@ -114,7 +101,8 @@ impl Draft {
         if self.relations == 512 {
             return Err(BuildError::Full);
         }
-        if from >= self.events as u16 || to >= self.events as u16 {
+        let events = self.events.len();
+        if from as usize >= events || to as usize >= events {
             return Err(BuildError::Invalid);
         }
         if !self.release.allows(kind) {
@@ -128,7 +116,7 @@ impl Draft {
         if self.conflicts(relation) {
             return Err(BuildError::Conflict);
         }
-        self.table[self.relations as usize] = relation;
+        self.table[self.relations] = relation;
         self.relations += 1;
         Ok(())
     }
@@ -137,7 +125,7 @@ impl Draft {
     pub fn finish(self) -> Option<Graph>
         ensures { MatchOption result (length (held self).events ≡ 0) (λ g. content g ≡ held self) }
     {
-        if self.events == 0 {
+        if self.events.is_empty() {
             return None;
         }
         Some(Graph { draft: self })

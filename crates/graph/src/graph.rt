@@ -1,4 +1,4 @@
-ghost use Rattle.std.specs.Prelude.{◌<◌};
+ghost use Rattle.std.specs.Prelude.{◌<◌, length};
 
 use crate::draft::Draft;
 
@@ -6,5 +6,5 @@ use crate::draft::Draft;
 #[derive(Drop)]
 pub struct Graph {
     pub(crate) draft: Draft,
-    ghost some: { 0 < draft.events },
+    ghost some: { 0 < length draft.events.items },
 }

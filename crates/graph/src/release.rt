@@ -1,43 +1,51 @@
 ghost use Rattle.graph.specs.Releases.{barred, release_number};
-ghost use Rattle.std.specs.Prelude.{◌≡◌, not, MatchOption, ◌≢◌};
+ghost use Rattle.std.specs.Prelude.{◌≡◌, not, MatchResult, ◌≢◌};
 
 use crate::kind::Kind;
 
 /// The release whose rules a graph follows.
 #[derive(Clone, Copy)]
 pub enum Release {
-    Four,
-    Six,
+    Four = 4,
+    Six = 6,
 }
 
+/// A number that no release has.
+#[derive(Clone, Copy)]
+pub struct UnknownRelease(pub u16);
+
 impl Release {
-    pub fn number(self) -> u8
-        ensures { result ≡ release_number self }
-    {
-        match self {
-            Release::Four => 4,
-            Release::Six => 6,
-        }
-    }
-
-    /// The release of that number, if there is one.
-    pub fn of_number(number: u16) -> Option<Release>
-        ensures { MatchOption result ((number ≢ 4) × (number ≢ 6)) (λ x. release_number x ≡ number) }
-    {
-        match number {
-            4 => Some(Release::Four),
-            6 => Some(Release::Six),
-            _ => None,
-        }
-    }
-
     /// Whether graphs of the release may have relations of the kind: release 4 has no milestones.
-    pub(crate) fn allows(self, kind: Kind) -> bool
+    pub fn allows(self, kind: Kind) -> bool
         ensures { result ≡ not (barred self kind) }
     {
         match (self, kind) {
             (Release::Four, Kind::Milestone) => false,
             _ => true,
+        }
+    }
+}
+
+impl From<Release> for u8 {
+    ghost from_gives = { λ release number. number ≡ release_number release };
+
+    fn from(release: Release) -> u8 {
+        release as u8
+    }
+}
+
+impl TryFrom<u16> for Release {
+    type Error = UnknownRelease;
+
+    ghost try_from_gives = { λ number r. MatchResult r
+        (λ release. release_number release ≡ number)
+        (λ error. (number ≢ 4) × (number ≢ 6) × (error.0 ≡ number)) };
+
+    fn try_from(number: u16) -> Result<Release, UnknownRelease> {
+        match number {
+            4 => Ok(Release::Four),
+            6 => Ok(Release::Six),
+            _ => Err(UnknownRelease(number)),
         }
     }
 }

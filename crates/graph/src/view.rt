@@ -25,7 +25,7 @@ impl Graph {
     pub fn events(&self) -> &[Event]
         ensures { result.now ≡ (content self.now).events }
     {
-        &self.draft.rows[0..self.draft.events as usize]
+        self.draft.events.as_slice()
     }
 
     /// The relations in the order of their declaration.
@@ -33,7 +33,7 @@ impl Graph {
         ensures { result.now ≡ (content self.now).relations }
     {
         let draft = &self.draft;
-        &draft.table[0..draft.relations as usize]
+        &draft.table[..draft.relations]
     }
 
     /// All 512 records: the relations in their order, and then zero records.

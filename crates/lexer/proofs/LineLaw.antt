@@ -1,10 +1,11 @@
 -- The lines of a text put together are the text, and no other lines are.
-use Rattle.std.proofs.Common.{◌≡◌, ℕ, List, [], ◌∷◌, ◌++◌, length, sym, refl, ap, ◌∙◌, subst, inl, inr, ⊎_elim, append_assoc, arith}
+use Rattle.std.proofs.Common.{◌≡◌, ℕ, List, [], ◌∷◌, ◌++◌, sym, refl, ap, ◌∙◌, subst, inl, inr, ⊎_elim, append_assoc, arith}
 use Rattle.std.specs.List.{AllByRecursion}
-use Rattle.std.proofs.lemmas.List.{length_push}
+use Rattle.std.proofs.lemmas.List.{same_from_push}
 use Rattle.std.proofs.lemmas.Bool.{cases_eq, cond-true, cond-false, ne_eqb, eq-eqb}
 use Rattle.lexer.specs.Lines.{Lasting, LinesAreTheText, MakeUp, OnlyLines, ended, lines, onto}
-use Rattle.lexer.proofs.Cuts.{Without, lines-ended, lines-last}
+use Rattle.lexer.specs.Parts.{Without}
+use Rattle.lexer.proofs.Cuts.{lines-ended, lines-last}
 
 -- one more byte, which ends no line
 more : (b : ℕ) (text : List ℕ) (ls : List (List ℕ)) → (b ≡ 10 → ⊥) → MakeUp ls text → MakeUp (onto b ls) (b ∷ text)
@@ -33,16 +34,6 @@ joined : List ℕ → List (List ℕ) → List ℕ
 joined l [] = l
 joined l (m ∷ ls) = l ++ 10 ∷ joined m ls
 
-push-same : (a : ℕ) (xs ys : List ℕ) → xs ++ a ∷ [] ≡ ys ++ a ∷ [] → xs ≡ ys
-push-same a [] [] e = refl
-push-same a [] (y ∷ ys) e = absurd (omega (arith, ap length e, length_push ys a))
-push-same a (x ∷ xs) [] e = absurd (omega (arith, ap length e, length_push xs a))
-push-same a (x ∷ xs) (y ∷ ys) e =
-    let h : x ≡ y = cc in
-    let t : xs ++ a ∷ [] ≡ ys ++ a ∷ [] = cc in
-    let r = push-same a xs ys t in
-    (λ i. h i ∷ r i)
-
 ended-joined : (l : List ℕ) (ls : List (List ℕ)) → ended (l ∷ ls) ≡ joined l ls ++ 10 ∷ []
 unfolding joined
 ended-joined l [] = refl
@@ -60,4 +51,4 @@ lines-of-ended (l ∷ ls) w = lines-ended l (ended ls) w.0 ∙ (λ i. l ∷ line
 pub only-lines : OnlyLines
 only-lines text ls (w, inl e) = sym (lines-of-ended ls w) ∙ ap lines e
 only-lines text [] (w, inr p) = absurd p.1
-only-lines text (l ∷ ls) (w, inr p) = sym (lines-joined l ls w p.1) ∙ ap lines (push-same 10 (joined l ls) text (sym (ended-joined l ls) ∙ p.0))
+only-lines text (l ∷ ls) (w, inr p) = sym (lines-joined l ls w p.1) ∙ ap lines (same_from_push (joined l ls) text 10 10 (sym (ended-joined l ls) ∙ p.0)).0

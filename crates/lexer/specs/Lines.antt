@@ -1,6 +1,9 @@
 -- How a text falls into lines.
-use Rattle.std.specs.Prelude.{◌≡◌, ℕ, ◌+◌, ◌-◌, ◌^◌, ◌<◌, min, cond, ◌⊎◌, List, [], ◌∷◌, ◌++◌, length, ◌==◌, ◌≢◌}
+use Rattle.std.specs.Prelude.{◌≡◌, ℕ, ◌+◌, ◌-◌, ◌^◌, ◌<◌, min, cond, ◌⊎◌, List, [], ◌∷◌, ◌++◌, length, Option, MatchOption, ◌==◌, ◌≢◌}
 use Rattle.std.specs.List.{AllByRecursion}
+use Rattle.lexer.specs.Parts.{StandIn}
+use Rattle.lexer.specs.declared.lines.Line.{Line}
+use Rattle.lexer.specs.declared.lines.Lines.{Lines}
 
 -- one more byte before the first line
 abbrev pub onto : ℕ → List (List ℕ) → List (List ℕ)
@@ -38,3 +41,16 @@ OnlyLines = (text : List ℕ) (ls : List (List ℕ)) → MakeUp ls text → ls �
 -- the next line number, as far as machine numbers go
 abbrev pub successor : ℕ → ℕ
 successor n = min (n + 1) (2 ^ 64 - 1)
+
+-- the line is the first of those still to come, and the others come after it
+pub record FirstLine (before : Lines) (l : Line) (after : Lines) : Type 0 where
+  pub line : lines before.rest.bytes.now ≡ l.part.bytes.now ∷ lines after.rest.bytes.now
+  pub shorter : length after.rest.bytes.now < length before.rest.bytes.now
+  pub number : l.number ≡ successor before.number
+  pub counted : after.number ≡ l.number
+  pub place : StandIn before.rest l.part.at l.part.bytes.now
+  pub next_place : StandIn before.rest after.rest.at after.rest.bytes.now
+
+-- the next line is taken, or none is left
+abbrev pub TakesLine : Lines → Option Line → Lines → Type 0
+TakesLine before result after = MatchOption result ((lines before.rest.bytes.now ≡ []) × (after ≡ before)) (λ l. FirstLine before l after)

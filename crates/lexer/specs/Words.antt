@@ -1,13 +1,11 @@
 -- The words of a line and their places in the text.
-use Rattle.std.specs.Prelude.{◌≡◌, ℕ, ◌<◌, true, false, List, [], ◌∷◌, ◌++◌, length, take, drop, ◌≢◌, slice_index}
+use Rattle.std.specs.Prelude.{◌≡◌, ℕ, ◌<◌, true, false, List, [], ◌∷◌, ◌++◌, length, Option, MatchOption, ◌≢◌, slice_index}
 use Rattle.std.specs.List.{AllByRecursion}
 use Rattle.lexer.specs.Numbers.{shaped}
+use Rattle.lexer.specs.Parts.{StandIn}
 use Rattle.lexer.specs.declared.words.Word.{Word}
+use Rattle.lexer.specs.declared.words.Words.{Words}
 use Rattle.lexer.specs.declared.words.Word.TheVariants.{Letter, Number, Other}
-
--- the bytes are the part of the text at that place
-abbrev pub StandAt : List ℕ → ℕ → List ℕ → Type 0
-StandAt text at bytes = take (length bytes) (drop at text) ≡ bytes
 
 abbrev pub spelled : Word → List ℕ
 spelled (Letter at byte) = byte.now ∷ []
@@ -18,10 +16,6 @@ abbrev pub place_of : Word → ℕ
 place_of (Letter at byte) = at
 place_of (Number at digits) = at
 place_of (Other at bytes) = at
-
--- the word is the part of the text at its place
-abbrev pub Stands : List ℕ → Word → Type 0
-Stands text w = StandAt text (place_of w) (spelled w)
 
 -- what follows a word: nothing, or the next space
 abbrev pub Stop : List ℕ → Type 0
@@ -42,3 +36,14 @@ abbrev pub Begins : List ℕ → List ℕ → Word → Type 0
 Begins line tail (Letter at byte) = line ≡ byte.now ∷ tail
 Begins line tail (Number at digits) = ⊥
 Begins line tail (Other at bytes) = ⊥
+
+-- the word after one space, at its place, and what is left after it
+pub record NextWord (before : Words) (w : Word) (after : Words) : Type 0 where
+  pub word : Follows before.rest.bytes.now after.rest.bytes.now w
+  pub place : StandIn before.rest (place_of w) (spelled w)
+  pub next_place : StandIn before.rest after.rest.at after.rest.bytes.now
+
+-- the next word is taken, or no space comes next
+abbrev pub TakesWord : Words → Option Word → Words → Type 0
+TakesWord before result after =
+    MatchOption result ((0 < length before.rest.bytes.now → slice_index before.rest.bytes.now 0 ≢ 32) × (after ≡ before)) (λ w. NextWord before w after)

@@ -5,4 +5,5 @@ mod bytes;
 pub mod fault;
 pub mod lines;
 pub mod numbers;
+pub mod part;
 pub mod words;

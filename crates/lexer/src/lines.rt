@@ -1,38 +1,35 @@
-ghost use Rattle.std.specs.Prelude.{◌≡◌, ℕ, ◌+◌, ◌-◌, ◌^◌, ◌<◌, ◌≤◌, List, [], ◌∷◌, length, IfSome, MatchOption, MatchResult, slice_index_or};
-ghost use Rattle.lexer.specs.Lines.{LinesAreTheText, OnlyLines, lines, successor};
-ghost use Rattle.lexer.specs.Words.{StandAt};
+ghost use Rattle.std.specs.Prelude.{◌≡◌, ◌-◌, ◌<◌, ◌≤◌, [], length, MatchOption, MatchResult, slice_index_or};
+ghost use Rattle.std.specs.Iterator.{at_most};
+ghost use Rattle.lexer.specs.Lines.{LinesAreTheText, OnlyLines, TakesLine, lines};
 ghost use Rattle.lexer.specs.declared.fault.ByteFault.TheVariants.{TooLong};
 
-use crate::bytes::find;
 use crate::fault::ByteFault;
+use crate::part::Part;
 
 /// The most bytes that a text may have.
 const LONGEST: usize = 65_536;
 
-/// One line of a text, with its number and its place.
+/// One line of a text, with its number.
 #[derive(Clone, Copy)]
 pub struct Line<'a> {
     pub number: usize,
-    pub at: usize,
-    pub bytes: &'a [u8],
+    pub part: Part<'a>,
 }
 
 /// The lines of a text that are still to come.
 #[derive(Drop)]
 pub struct Lines<'a> {
-    rest: &'a [u8],
-    at: usize,
+    rest: Part<'a>,
     number: usize,
 }
 
 impl<'a> Lines<'a> {
     /// The lines of the text, however long it is.
     pub fn new(text: &'a [u8]) -> Lines<'a>
-        ensures { (result.rest.now ≡ text.now) × (result.at ≡ 0) × (result.number ≡ 0) }
+        ensures { (result.rest.bytes.now ≡ text.now) × (result.rest.at ≡ 0) × (result.number ≡ 0) }
     {
         Lines {
-            rest: text,
-            at: 0,
+            rest: Part { at: 0, bytes: text },
             number: 0,
         }
     }
@@ -40,7 +37,7 @@ impl<'a> Lines<'a> {
     /// The lines of a graph text, or a fault where it is too long.
     pub fn of(text: &'a [u8]) -> Result<Lines<'a>, ByteFault>
         ensures { MatchResult result
-            (λ l. (length text.now ≤ 65536) × (l.rest.now ≡ text.now) × (l.at ≡ 0) × (l.number ≡ 0))
+            (λ l. (length text.now ≤ 65536) × (l.rest.bytes.now ≡ text.now) × (l.rest.at ≡ 0) × (l.number ≡ 0))
             (λ f. (f ≡ TooLong) × (65536 < length text.now)) }
     {
         if text.len() > LONGEST {
@@ -48,31 +45,29 @@ impl<'a> Lines<'a> {
         }
         Ok(Lines::new(text))
     }
+}
 
-    /// The next line, if there is one.
-    pub fn next_line(&mut self) -> Option<Line<'a>>
-        ensures line { MatchOption result (lines self.old.rest.now ≡ [])
-            (λ l. (lines self.old.rest.now ≡ l.bytes.now ∷ lines self.new.rest.now)
-            × (length self.new.rest.now < length self.old.rest.now)) }
-        ensures number { IfSome result (λ l. (l.number ≡ successor self.old.number) × (self.new.number ≡ l.number)) }
-        ensures place { (text : List ℕ) → length text < 2 ^ 64 → StandAt text self.old.at self.old.rest.now →
-            IfSome result (λ l. StandAt text l.at l.bytes.now × StandAt text self.new.at self.new.rest.now) }
-    {
-        let text = self.rest;
-        if text.is_empty() {
+impl<'a> Iterator for Lines<'a> {
+    type Item = Line<'a>;
+
+    ghost next_gives = { TakesLine };
+
+    ghost remaining = { λ s. at_most (length s.rest.bytes.now) };
+
+    fn next(&mut self) -> Option<Line<'a>> {
+        if self.rest.bytes.is_empty() {
             return None;
         }
-        let end = find(text, b'\n');
-        let next = if end < text.len() { end + 1 } else { end };
-        let line = Line {
-            number: self.number.saturating_add(1),
-            at: self.at,
-            bytes: &text[0..end],
+        let (part, rest) = self.rest.cut(b'\n');
+        self.rest = match rest.split_first() {
+            Some((_, next)) => next,
+            None => rest,
         };
-        self.rest = &text[next..];
-        self.at = self.at.saturating_add(next);
-        self.number = line.number;
-        Some(line)
+        self.number = self.number.saturating_add(1);
+        Some(Line {
+            number: self.number,
+            part,
+        })
     }
 }
 
@@ -81,13 +76,8 @@ pub fn line_at(text: &[u8], number: usize) -> Option<&[u8]>
     ensures { MatchOption result (0 < number → length (lines text.now) < number)
         (λ l. (0 < number) × (number ≤ length (lines text.now)) × (l.now ≡ slice_index_or (lines text.now) (number - 1) [])) }
 {
-    let mut rest = Lines::new(text);
-    while let Some(line) = rest.next_line() {
-        if line.number == number {
-            return Some(line.bytes);
-        }
-    }
-    None
+    let line = Lines::new(text).nth(number.checked_sub(1)?)?;
+    Some(line.part.bytes)
 }
 
 /// How a text falls into lines, as a law: the lines hold no end of line and are the text when put

@@ -5,12 +5,10 @@ ghost use Rattle.std.specs.Prelude.{◌≡◌, true, false, MatchOption};
 pub(crate) fn is_number(word: &[u8]) -> bool
     ensures { result ≡ shaped word.now }
 {
-    match word {
-        [b'0'..=b'9'] => true,
-        [b'1'..=b'9', b'0'..=b'9'] => true,
-        [b'1'..=b'9', b'0'..=b'9', b'0'..=b'9'] => true,
-        _ => false,
-    }
+    matches!(
+        word,
+        [b'0'..=b'9'] | [b'1'..=b'9', b'0'..=b'9'] | [b'1'..=b'9', b'0'..=b'9', b'0'..=b'9']
+    )
 }
 
 /// What the digits of a number come to.
@@ -18,12 +16,11 @@ fn value(digits: &[u8]) -> u16
     requires { shaped digits.now ≡ true }
     ensures { result ≡ valued digits.now }
 {
-    match digits {
-        [a] => (*a - b'0') as u16,
-        [a, b] => (*a - b'0') as u16 * 10 + (*b - b'0') as u16,
-        [a, b, c] => (*a - b'0') as u16 * 100 + (*b - b'0') as u16 * 10 + (*c - b'0') as u16,
-        _ => 0,
+    let mut value = 0;
+    for digit in digits {
+        value = value * 10 + u16::from(*digit - b'0');
     }
+    value
 }
 
 /// The value of the word, if it is a number.

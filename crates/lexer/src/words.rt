@@ -1,12 +1,15 @@
-ghost use Rattle.std.specs.Prelude.{◌≡◌, ℕ, ◌+◌, ◌-◌, ◌^◌, ◌<◌, ◌≤◌, true, false, List, [], ◌∷◌, ◌++◌, length, IfSome, IfOk, MatchOption, MatchResult, ◌==◌, ◌≢◌, slice_index};
+ghost use Rattle.std.specs.Prelude.{◌≡◌, true, false, length, IfSome, IfOk, MatchOption, MatchResult, ◌==◌};
+ghost use Rattle.std.specs.Iterator.{at_most};
 ghost use Rattle.lexer.specs.Bytes.{clean};
-ghost use Rattle.lexer.specs.Words.{Begins, Follows, StandAt, Stands, place_of, spelled};
+ghost use Rattle.lexer.specs.Parts.{StandIn};
+ghost use Rattle.lexer.specs.Words.{Begins, TakesWord, place_of, spelled};
 ghost use Rattle.lexer.specs.declared.fault.ByteFault.TheVariants.{Unprintable};
 
-use crate::bytes::{check_bytes, find};
+use crate::bytes::check_bytes;
 use crate::fault::ByteFault;
 use crate::lines::Line;
 use crate::numbers::is_number;
+use crate::part::Part;
 use std::alloc::{AllocError, Global};
 
 /// A word of a text with its place in it: it borrows the text's bytes.
@@ -20,70 +23,60 @@ pub enum Word<'a> {
     Other { at: usize, bytes: &'a [u8] },
 }
 
-/// What is left of a line whose bytes are all printable, with its place in the text.
+/// What is left of a line whose bytes are all printable: its words, each after one space.
 #[derive(Drop)]
 pub struct Words<'a> {
-    rest: &'a [u8],
-    at: usize,
+    rest: Part<'a>,
 }
 
 impl<'a> Words<'a> {
     /// The words of the line, or a fault where it has a byte that is not printable.
     pub fn of(line: Line<'a>) -> Result<Words<'a>, ByteFault>
         ensures { MatchResult result
-            (λ w. (clean line.entry.bytes.now ≡ true) × (w.rest.now ≡ line.entry.bytes.now) × (w.at ≡ line.entry.at))
-            (λ f. (f ≡ Unprintable line.entry.number) × (clean line.entry.bytes.now ≡ false)) }
+            (λ w. (clean line.entry.part.bytes.now ≡ true) × (w.rest ≡ line.entry.part))
+            (λ f. (f ≡ Unprintable line.entry.number) × (clean line.entry.part.bytes.now ≡ false)) }
     {
-        check_bytes(line.bytes, line.number)?;
-        Ok(Words {
-            rest: line.bytes,
-            at: line.at,
-        })
+        check_bytes(line)?;
+        Ok(Words { rest: line.part })
     }
 
     /// Whether nothing of the line is left.
     pub fn is_empty(&self) -> bool
-        ensures { result ≡ (length self.now.rest.now == 0) }
+        ensures { result ≡ (length self.now.rest.bytes.now == 0) }
     {
-        self.rest.is_empty()
+        self.rest.bytes.is_empty()
     }
 
     /// The letter that begins the line, if the line is not empty.
     pub fn letter(&mut self) -> Option<Word<'a>>
-        ensures word { MatchOption result (length self.old.rest.now ≡ 0) (λ w. Begins self.old.rest.now self.new.rest.now w) }
-        ensures place { (text : List ℕ) → length text < 2 ^ 64 → StandAt text self.old.at self.old.rest.now →
-            IfSome result (λ w. Stands text w × StandAt text self.new.at self.new.rest.now) }
+        ensures word { MatchOption result (length self.old.rest.bytes.now ≡ 0) (λ w. Begins self.old.rest.bytes.now self.new.rest.bytes.now w) }
+        ensures place { IfSome result (λ w. StandIn self.old.rest (place_of w) (spelled w) × StandIn self.old.rest self.new.rest.at self.new.rest.bytes.now) }
     {
-        let line = self.rest;
-        if line.is_empty() {
-            return None;
-        }
-        let at = self.at;
-        self.at = at.saturating_add(1);
-        self.rest = &line[1..];
-        Some(Word::Letter { at, byte: &line[0] })
+        let at = self.rest.at;
+        let (byte, line) = self.rest.split_first()?;
+        self.rest = line;
+        Some(Word::Letter { at, byte })
     }
+}
 
-    /// The word after one space, if a space comes next.
-    pub fn next_word(&mut self) -> Option<Word<'a>>
-        ensures word { MatchOption result (0 < length self.old.rest.now → slice_index self.old.rest.now 0 ≢ 32)
-            (λ w. Follows self.old.rest.now self.new.rest.now w) }
-        ensures place { (text : List ℕ) → length text < 2 ^ 64 → StandAt text self.old.at self.old.rest.now →
-            IfSome result (λ w. Stands text w × StandAt text self.new.at self.new.rest.now) }
-    {
-        let line = self.rest;
-        if line.is_empty() || line[0] != b' ' {
+impl<'a> Iterator for Words<'a> {
+    type Item = Word<'a>;
+
+    ghost next_gives = { TakesWord };
+
+    ghost remaining = { λ s. at_most (length s.rest.bytes.now) };
+
+    fn next(&mut self) -> Option<Word<'a>> {
+        let (b' ', rest) = self.rest.split_first()? else {
             return None;
-        }
-        let (bytes, tail) = line[1..].split_at(find(&line[1..], b' '));
-        let at = self.at.saturating_add(1);
-        self.at = at.saturating_add(bytes.len());
-        self.rest = tail;
-        if is_number(bytes) {
-            Some(Word::Number { at, digits: bytes })
+        };
+        let (Part { at, bytes }, rest) = rest.cut(b' ');
+        self.rest = rest;
+        Some(if is_number(bytes) {
+            Word::Number { at, digits: bytes }
         } else {
-            Some(Word::Other { at, bytes })
-        }
+            Word::Other { at, bytes }
+        })
     }
 }
 
@@ -93,20 +86,18 @@ impl<'a> Word<'a> {
         ensures { result ≡ place_of self.entry }
     {
         match self {
-            Word::Letter { at, .. } => at,
-            Word::Number { at, .. } => at,
-            Word::Other { at, .. } => at,
+            Word::Letter { at, .. } | Word::Number { at, .. } | Word::Other { at, .. } => at,
         }
     }
 
     /// The word's bytes in memory of their own, so that the text may be overwritten.
-    pub fn copied(self, heap: Global) -> Result<Vec<u8>, AllocError>
+    pub fn copied(self, alloc: Global) -> Result<Vec<u8>, AllocError>
         ensures { IfOk result (λ v. v.items ≡ spelled self.entry) }
     {
         match self {
-            Word::Letter { byte, .. } => Vec::from_slice(heap, &[*byte]),
-            Word::Number { digits, .. } => Vec::from_slice(heap, digits),
-            Word::Other { bytes, .. } => Vec::from_slice(heap, bytes),
+            Word::Letter { byte, .. } => Vec::from_slice(alloc, &[*byte]),
+            Word::Number { digits, .. } => Vec::from_slice(alloc, digits),
+            Word::Other { bytes, .. } => Vec::from_slice(alloc, bytes),
         }
     }
 }

@@ -1,5 +1,5 @@
 -- A line that keeps one list at each place: a change at one place is a change of one pair's list.
-use Rattle.std.proofs.Common.{◌≡◌, ℕ, ◌+◌, ◌*◌, ◌<◌, Bool, true, false, cond, ◌&&◌, eqb, ltb, List, [], ◌∷◌, ◌++◌, length, sym, refl, ap, ◌∙◌, subst, ap₂, inl, inr, arith}
+use Rattle.std.proofs.Common.{◌≡◌, ℕ, ◌+◌, ◌*◌, ◌<◌, Bool, true, false, cond, ◌&&◌, eqb, ltb, List, [], ◌∷◌, ◌++◌, length, sym, refl, ap, ◌∙◌, ap₂, inl, inr, arith}
 use Rattle.std.proofs.lemmas.Bool.{and_parts, cases_Bool, cond-true, eqb-true, ltb-true}
 use Rattle.std.proofs.lemmas.Bool.Decides.{nat_tests}
 use Rattle.lines.specs.declared.message.Message.{Message}
@@ -55,26 +55,8 @@ one-posted limit old new from to p m t e h s a b =
     ∙ ap (λ x. cond (x && same from to a b) (placed old a b ++ m ∷ []) (placed old a b)) (sym (fits-place limit old from to p t e))
   where
     swap : (x y : Bool) → cond x (cond y (placed old a b ++ m ∷ []) (placed old a b)) (placed old a b) ≡ cond (y && x) (placed old a b ++ m ∷ []) (placed old a b)
-    swap true true = refl
-    swap true false = refl
-    swap false true = refl
-    swap false false = refl
+    swap x y = grind arith
 
 pub one-taken : (old new : ℕ → List Message) (from to p : ℕ) → inside from to ≡ true → p ≡ 8 * from + to → Elsewhere old new p
     → new p ≡ younger (old p) → (a b : ℕ) → placed new a b ≡ taken (placed old) from to a b
 one-taken old new = changed younger old new
-
--- outside the pairs of a line nothing is there to take, and nothing is put
-pub none-taken : (at : ℕ → List Message) (from to : ℕ) → inside from to ≡ false → (a b : ℕ) → placed at a b ≡ taken (placed at) from to a b
-none-taken at from to t a b = elim (cases_Bool (same from to a b)) [
-  | inl u ↦
-      (let q = and_parts (eqb a from) (eqb b to) u in
-      let i : inside a b ≡ false = ap₂ inside (eqb-true a from q.0) (eqb-true b to q.1) ∙ t in
-      let n : placed at a b ≡ [] = ap (λ x. cond x (at (8 * a + b)) []) i in
-      subst (λ l. l ≡ cond (same from to a b) (younger l) l) (sym n) (sym (nothing (same from to a b))))
-  | inr u ↦ ap (λ x. cond x (younger (placed at a b)) (placed at a b)) (sym u)
-]
-  where
-    nothing : (x : Bool) → cond x (younger {A = Message} []) [] ≡ []
-    nothing true = refl
-    nothing false = refl

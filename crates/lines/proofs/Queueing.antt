@@ -5,11 +5,11 @@ use Rattle.std.proofs.lemmas.List.{drop-drop, drop-set-lt, take_more, take_more_
 use Rattle.std.proofs.lemmas.Bool.{and_parts, eqb-true}
 use Rattle.lines.specs.declared.message.Message.{Message}
 use Rattle.lines.specs.declared.play.LineAnswer.{LineAnswer}
-use Rattle.lines.specs.declared.play.LineAnswer.TheVariants.{Counted, Posted, Refused}
+use Rattle.lines.specs.declared.play.LineAnswer.TheVariants.{Counted, Posted, Taken}
 use Rattle.lines.specs.declared.play.LineCall.{LineCall}
-use Rattle.lines.specs.declared.play.LineCall.TheVariants.{Count, Post, Take}
-use Rattle.lines.specs.Lists.{Lists, fits, inside, oldest, same, younger}
-use Rattle.lines.specs.Plays.{PairsAreQueues, answers, answers_on, calls_on, given, is_on, lists, queue, queue_answers, queue_serves, queue_tells, served, told}
+use Rattle.lines.specs.declared.play.LineCall.TheVariants.{Count, Post, Take as Takes}
+use Rattle.lines.specs.Lists.{Lists, fits, inside, oldest, same}
+use Rattle.lines.specs.Plays.{PairsAreQueues, answers, answers_on, calls_on, is_on, lists, put, queue, queue_answers, queue_serves, queue_tells, served, told}
 
 -- a call on the pair does what a queue does
 module _ (limit : ℕ) (W : Lists) (a b : ℕ) where
@@ -22,27 +22,16 @@ module _ (limit : ℕ) (W : Lists) (a b : ℕ) where
       ap₂ (λ x y. fits limit W x y) (sym (eqb-true a from p.0)) (sym (eqb-true b to p.1)) ∙ ap (λ x. x && ltb (length (W a b)) limit) i
 
   pub tells : (c : LineCall) → inside a b ≡ true → is_on a b c ≡ true → told limit W c ≡ queue_tells limit (W a b) c
-  tells (Post from to m) i t = ap (λ x. cond x Posted Refused) (room from to i t)
-  tells (Take from to) i t = ap (λ q. given (oldest q)) (here from to t)
+  tells (Post from to m) i t = ap (λ x. Posted (put x)) (room from to i t)
+  tells (Takes from to) i t = ap (λ q. Taken (oldest q)) (here from to t)
   tells (Count from to) i t = ap (λ q. Counted (length q)) (here from to t)
 
   pub serves : (c : LineCall) → inside a b ≡ true → is_on a b c ≡ true → served limit W c a b ≡ queue_serves limit (W a b) c
-  serves (Post from to m) i t = ap₂ (λ x y. cond (x && y) (W a b ++ m ∷ []) (W a b)) (room from to i t) t ∙ last (ltb (length (W a b)) limit)
-    where
-      last : (x : Bool) → cond (x && true) (W a b ++ m ∷ []) (W a b) ≡ cond x (W a b ++ m ∷ []) (W a b)
-      last true = refl
-      last false = refl
-  serves (Take from to) i t = ap (λ x. cond x (younger (W a b)) (W a b)) t
-  serves (Count from to) i t = refl
+  serves (Post from to m) i t = let r = room from to i t in grind arith
+  serves c i t = grind arith
 
   pub leaves : (c : LineCall) → is_on a b c ≡ false → served limit W c a b ≡ W a b
-  leaves (Post from to m) t = ap (λ y. cond (fits limit W from to && y) (W a b ++ m ∷ []) (W a b)) t ∙ none (fits limit W from to)
-    where
-      none : (x : Bool) → cond (x && false) (W a b ++ m ∷ []) (W a b) ≡ W a b
-      none true = refl
-      none false = refl
-  leaves (Take from to) t = ap (λ x. cond x (younger (W a b)) (W a b)) t
-  leaves (Count from to) t = refl
+  leaves c t = grind arith
 
 -- what the law says of one list of calls
 abbrev Same : ℕ → Lists → List LineCall → ℕ → ℕ → List LineCall → List Message → Type 0

@@ -2,3 +2,4 @@ pub mod Refusals
 pub mod Messages
 pub mod Lists
 pub mod Plays
+pub mod Texts

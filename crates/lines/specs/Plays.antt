@@ -1,22 +1,23 @@
 -- Lists of calls of a line, and the law that each pair is a queue.
-use Rattle.std.specs.Prelude.{◌≡◌, ℕ, Bool, true, cond, List, [], ◌∷◌, ◌++◌, length, Some, None, Option, nat_lt}
+use Rattle.std.specs.Prelude.{◌≡◌, ℕ, Bool, true, cond, List, [], ◌∷◌, ◌++◌, length, Ok, Err, Result, nat_lt}
+use Rattle.lines.specs.declared.line.Full.{Full}
 use Rattle.lines.specs.declared.message.Message.{Message}
 use Rattle.lines.specs.declared.play.LineAnswer.{LineAnswer}
-use Rattle.lines.specs.declared.play.LineAnswer.TheVariants.{Counted, Nothing, Posted, Refused, Taken}
+use Rattle.lines.specs.declared.play.LineAnswer.TheVariants.{Counted, Posted, Taken}
 use Rattle.lines.specs.declared.play.LineCall.{LineCall}
 use Rattle.lines.specs.declared.play.LineCall.TheVariants.{Count, Post, Take}
 use Rattle.lines.specs.Lists.{Lists, fits, inside, oldest, posted, same, taken, younger}
 
 -- ---- a line of that limit
 
-abbrev pub given : Option Message → LineAnswer
-given None = Nothing
-given (Some m) = Taken m
+-- what a post answers where there is room, and where there is none
+abbrev pub put : Bool → Result (Unit {0}) Full
+put room = cond room (Ok tt) (Err record {})
 
 -- what a call answers where these messages wait,
 abbrev pub told : ℕ → Lists → LineCall → LineAnswer
-told limit W (Post from to m) = cond (fits limit W from to) Posted Refused
-told limit W (Take from to) = given (oldest (W from to))
+told limit W (Post from to m) = Posted (put (fits limit W from to))
+told limit W (Take from to) = Taken (oldest (W from to))
 told limit W (Count from to) = Counted (length (W from to))
 
 -- and which messages wait after it
@@ -36,8 +37,8 @@ lists limit W (c ∷ cs) = lists limit (served limit W c) cs
 -- ---- a queue of that limit
 
 abbrev pub queue_tells : ℕ → List Message → LineCall → LineAnswer
-queue_tells limit q (Post from to m) = cond (nat_lt (length q) limit) Posted Refused
-queue_tells limit q (Take from to) = given (oldest q)
+queue_tells limit q (Post from to m) = Posted (put (nat_lt (length q) limit))
+queue_tells limit q (Take from to) = Taken (oldest q)
 queue_tells limit q (Count from to) = Counted (length q)
 
 abbrev pub queue_serves : ℕ → List Message → LineCall → List Message

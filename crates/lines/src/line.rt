@@ -9,11 +9,11 @@ use crate::message::Message;
 #[derive(Clone, Copy)]
 pub struct Full;
 
-impl Full {
+impl From<Full> for u8 {
+    ghost from_gives = { λ refusal number. number ≡ post_number refusal };
+
     /// The number of the refusal.
-    pub fn number(self) -> u8
-        ensures { result ≡ post_number self }
-    {
+    fn from(_: Full) -> u8 {
         14
     }
 }
@@ -30,11 +30,13 @@ pub fn place(from: u8, to: u8) -> Option<usize>
 }
 
 /// A line holds, for each ordered pair of station numbers 0 to 7, the messages that wait from the first to the second.
+// The calls take `from` and `to` apart: a struct of the two would be made at each call only to be taken apart in it.
 pub trait Line {
     // The messages that wait from the first station to the second, oldest first.
     ghost waits: { Self → ℕ → ℕ → List AnyMessage };
 
     // Whether the line is in a state that its making gives and its calls keep.
+    // It is no invariant of the type, since setting up cannot refuse: a spool is made over memory of any length, a site over any line.
     ghost sound: { Self → Type 0 };
 
     // Whether what lies around the line's memory is the same in both.
@@ -42,10 +44,6 @@ pub trait Line {
 
     // How many messages may wait on a pair.
     ghost most: { ℕ };
-
-    ghost enough: { 3 ≤ most };
-
-    ghost outside: { (s : Self) (a b : ℕ) → inside a b ≡ false → waits s a b ≡ [] };
 
     /// How many messages may wait on a pair.
     fn limit(&self) -> usize
@@ -72,4 +70,10 @@ pub trait Line {
         ensures beside { beside self.old self.new }
         ensures answer { result ≡ oldest (waits self.old from to) }
         ensures lists { (a b : ℕ) → waits self.new a b ≡ taken (waits self.old) from to a b };
+
+    // A pair has room for three messages at least.
+    ghost enough: { 3 ≤ most };
+
+    // On what is no pair of a line nothing waits.
+    ghost outside: { (s : Self) (a b : ℕ) → inside a b ≡ false → waits s a b ≡ [] };
 }

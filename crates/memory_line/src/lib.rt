@@ -2,4 +2,3 @@
 #![tactic(auto)]
 
 pub mod memory_line;
-mod pair;

@@ -3,14 +3,15 @@ ghost use Rattle.lines.specs.Lists.{none-outside};
 ghost use Rattle.memory_line.specs.Held.{held_at, waits_in};
 ghost use Rattle.std.proofs.Common.{lit≤};
 
-use crate::pair::Pair;
+use arrayvec::ArrayVec;
 use lines::line::{Full, Line, place};
 use lines::message::Message;
+use std::array;
 
 /// A line in memory, with room for three messages on each pair.
 #[derive(Drop)]
 pub struct MemoryLine {
-    pairs: [Pair; 64],
+    pairs: [ArrayVec<Message, 3>; 64],
 }
 
 impl MemoryLine {
@@ -19,7 +20,7 @@ impl MemoryLine {
         ensures { (a b : ℕ) → waits_in result.pairs a b ≡ [] }
     {
         MemoryLine {
-            pairs: [Pair::empty(); 64],
+            pairs: array::from_fn(|_| ArrayVec::new()),
         }
     }
 }
@@ -33,32 +34,28 @@ impl Line for MemoryLine {
 
     ghost most = { 3 };
 
-    ghost enough = { lit≤ tt };
-
-    ghost outside = { λ s. none-outside (held_at s.pairs) };
-
     fn limit(&self) -> usize {
         3
     }
 
     fn count(&self, from: u8, to: u8) -> usize {
         match place(from, to) {
-            Some(p) => self.pairs[p].len(),
+            Some(pair) => self.pairs[pair].len(),
             None => 0,
         }
     }
 
     fn post(&mut self, from: u8, to: u8, message: Message) -> Result<(), Full> {
-        match place(from, to) {
-            Some(p) => self.pairs[p].push(message),
-            None => Err(Full),
-        }
+        let pair = place(from, to).ok_or(Full)?;
+        self.pairs[pair].try_push(message).map_err(|_| Full)
     }
 
     fn take(&mut self, from: u8, to: u8) -> Option<Message> {
-        match place(from, to) {
-            Some(p) => self.pairs[p].pop(),
-            None => None,
-        }
+        let pair = place(from, to)?;
+        self.pairs[pair].pop_at(0)
     }
+
+    ghost enough = { lit≤ tt };
+
+    ghost outside = { λ s. none-outside (held_at s.pairs) };
 }

@@ -1,21 +1,19 @@
 -- A message carried keeps a site and its table in step.
-use Rattle.std.proofs.Common.{◌≡◌, ℕ, suc, ◌+◌, ◌<◌, ◌≤◌, Bool, true, false, cond, not, ◌&&◌, ltb, List, [], ◌∷◌, is_some, Some, None, Option, sym, refl, ap, ◌∙◌, subst, arith}
+use Rattle.std.proofs.Common.{◌≡◌, ℕ, suc, ◌+◌, ◌<◌, ◌≤◌, Bool, true, false, cond, not, ◌&&◌, ltb, List, [], ◌∷◌, is_some, Some, None, Option, Ok, sym, refl, ap, ◌∙◌, subst, arith}
 use Rattle.std.proofs.lemmas.Bool.Decides.{nat_tests}
 use Rattle.std.proofs.lemmas.Bool.{lt-ltb, eq-eqb}
 use Rattle.events.specs.declared.marks.Marks.{Marks}
 use Rattle.lines.specs.declared.note.Note.{Note}
-use Rattle.lines.specs.declared.note.Note.TheVariants.{Ask, Grant, Settle, Unreadable}
+use Rattle.lines.specs.declared.note.Note.TheVariants.{Ask, Grant, Settle}
 use Rattle.rules.specs.declared.decision.Decision.{Decision}
 use Rattle.rules.specs.Answers.{accepted}
 use Rattle.rules.specs.Rule.{Meaning, Lawful}
-use Rattle.rules.specs.Lowest.{Tells, lowest-tells}
-use Rattle.protocol.specs.declared.delivery.Delivery.{Delivery}
-use Rattle.protocol.specs.declared.delivery.Delivery.TheVariants.{Nothing, Carried, Answered, Stray}
-use Rattle.protocol.specs.Station.{Request, Step, put, put_pair, is, missing, asks, goes_on, had_more, granted, step}
+use Rattle.rules.specs.Lowest.{Tells, lowest-is, lowest-tells}
+use Rattle.protocol.specs.Outcomes.{Delivery}
+use Rattle.protocol.specs.Station.{Request, Step, put, put_pair, is, missing, asks, goes_on, had_more, granted, settled, step}
 use Rattle.protocol.specs.Queues.{room_for}
 use Rattle.protocol.specs.Sites.{Site, moved}
 use Rattle.protocol.specs.Costs.{total, one, count, cost}
-use Rattle.protocol.proofs.Lowest.{lowest-is}
 use Rattle.protocol.proofs.Totals.{total-at}
 use Rattle.protocol.proofs.Whole.{Both, moves, carry, after, carry_one, open_cost, Spent}
 use Rattle.protocol.proofs.Locking.{requested, given, Phase, busy, clear, settling, Locking, Invariant, ask_free, ask_held, more, done, hands_over, marks_after, granting, freed}
@@ -41,8 +39,8 @@ pub record InStep (R : Meaning) (B : Both) : Type 0 where
   pub counted : B.carries + underway_count R locking ≡ B.costs + work_done R locking
 
 -- what a carry that takes a message comes to
-abbrev pub Next : Meaning → Both → (ℕ → ℕ → List Note) → ℕ → Step → Type 0
-Next R B Q b t = InStep R (after R B (moved B.site Q b t) t.delivery) × Spent R B (after R B (moved B.site Q b t) t.delivery)
+abbrev pub Next : Meaning → Both → (ℕ → ℕ → List (Option Note)) → ℕ → Step → Type 0
+Next R B Q b t = InStep R (after R B (moved B.site Q b t) (Some t.delivery)) × Spent R B (after R B (moved B.site Q b t) (Some t.delivery))
 
 same-due : (R : Meaning) (o : ℕ → Option ℕ) (e b : ℕ) → b < R.stations → o b ≡ Some e →
     cost R e + total (λ s. open_cost R (put o b None s)) R.stations ≡ total (λ s. open_cost R (o s)) R.stations
@@ -65,8 +63,13 @@ module _ (R : Meaning) (L : Lawful R) (eight : R.stations ≤ 8) (B : Both) (G :
   abbrev pub S : Site
   S = B.site
 
+  -- a step that answers nothing
+  silent : (Q : ℕ → ℕ → List (Option Note)) (t : Step) → t.delivery ≡ Ok None → (X : Locking) → Invariant R X B.table.marking →
+      Shows R (moved S Q b t) X → ((s : ℕ) → B.table.asked s ≡ open_of (X.phase s)) → suc B.carries + underway_count R X ≡ B.costs + work_done R X → Next R B Q b t
+  silent Q t d X i r o n = rw d (record { locking = X; invariant = i; shown = r; asked = o; answers = G.answers; no_stray = G.no_stray; counted = n }, (refl, refl, refl))
+
   -- an ask
-  module _ (f : ℕ) (q : List Note) (hd : S.waits a b ≡ Ask f ∷ q) where
+  module _ (f : ℕ) (q : List (Option Note)) (hd : S.waits a b ≡ Some (Ask f) ∷ q) where
     ask-is : (A.underway a b ≡ clear) × (e : ℕ) × (known : ℕ → Marks) × (A.phase a ≡ busy e f known requested) × (R.owner f ≡ b) × (others q ≡ [])
     ask-is = ask-head R (A.underway a b) (A.phase a) b f (others q) (sym (ap others hd) ∙ G.shown.others_of a b)
 
@@ -75,44 +78,27 @@ module _ (R : Meaning) (L : Lawful R) (eight : R.stations ≤ 8) (B : Both) (G :
         let k = ask-is in let e = k.1 in let known = k.2 in let at = k.3 in
         let cl : A.underway a (R.owner f) ≡ clear = let c = k.0 in let o = k.4 in cc in
         let w = free-works R L A B.table.marking G.invariant a e f known at in
-        let c = G.counted in (
-          record {
-            locking = ask_free A a e f known;
-            invariant = free-inv R L A B.table.marking G.invariant a e f known at cl (let i = G.shown.holders f in let o = k.4 in cc);
-            shown = free-shows R S A G.shown a b e f known q hd at k.0 k.4 k.5 tt;
-            asked = λ s. let o = G.asked s in grind (arith, nat_tests);
-            answers = G.answers;
-            no_stray = G.no_stray;
-            counted = omega arith;
-          },
-          (refl, refl, refl),
-        )
+        let c = G.counted in
+        silent (put_pair S.waits a b q) (asks (S.station b) a f None) refl (ask_free A a e f known)
+        (free-inv R L A B.table.marking G.invariant a e f known at cl (let i = G.shown.holders f in let o = k.4 in cc))
+        (free-shows R S A G.shown a b e f known q hd at k.0 k.4 k.5) (λ s. let o = G.asked s in grind (arith, nat_tests)) (omega arith)
     ask-next (Some t) h =
         let k = ask-is in let e = k.1 in let known = k.2 in let at = k.3 in
         let cl : A.underway a (R.owner f) ≡ clear = let c = k.0 in let o = k.4 in cc in
         let w = held-works R L A B.table.marking G.invariant a e f known at in
-        let c = G.counted in (
-          record {
-            locking = ask_held A a e f known;
-            invariant =
-                held-inv R L A B.table.marking G.invariant a e f known at cl (let i = G.shown.holders f in let o = k.4 in grind arith);
-            shown = held-shows R S A G.shown a b e f known q hd at k.0 k.4 k.5 t;
-            asked = λ s. let o = G.asked s in grind (arith, nat_tests);
-            answers = G.answers;
-            no_stray = G.no_stray;
-            counted = omega arith;
-          },
-          (refl, refl, refl),
-        )
+        let c = G.counted in
+        silent (put_pair S.waits a b q) (asks (S.station b) a f (Some t)) refl (ask_held A a e f known)
+        (held-inv R L A B.table.marking G.invariant a e f known at cl (let i = G.shown.holders f in let o = k.4 in grind arith))
+        (held-shows R S A G.shown a b e f known q hd at k.0 k.4 k.5 t) (λ s. let o = G.asked s in grind (arith, nat_tests)) (omega arith)
 
     ask-event : f < R.events
     ask-event = let i = G.invariant.valid a in let k = ask-is in let at = k.3 in let w = L.locks_events k.1 f in grind arith
 
-    ask-done : Next R B (put_pair S.waits a b q) b (step R b (S.station b) a (Ask f))
+    ask-done : Next R B (put_pair S.waits a b q) b (step R b (S.station b) a (Some (Ask f)))
     ask-done = rw (lt-ltb f R.events ask-event, eq-eqb (R.owner f) b ask-is.4) (ask-next ((S.station b).holder f) refl)
 
   -- a settle
-  module _ (e : ℕ) (ok : Bool) (q : List Note) (hd : S.waits a b ≡ Settle e ok ∷ q) where
+  module _ (e : ℕ) (ok : Bool) (q : List (Option Note)) (hd : S.waits a b ≡ Some (Settle e ok) ∷ q) where
     settle_is : (A.underway a b ≡ settling e ok) × (others q ≡ ask_list R (A.phase a) b)
     settle_is = settle-head R (A.underway a b) (A.phase a) b e ok (others q) (sym (ap others hd) ∙ G.shown.others_of a b)
 
@@ -122,26 +108,19 @@ module _ (R : Meaning) (L : Lawful R) (eight : R.stations ≤ 8) (B : Both) (G :
     same-open : (p : ℕ → Bool) (m : ℕ → Marks) (x : Phase) → open_of (granting p m x) ≡ open_of x
     same-open p m x = grind arith
 
-    settle-done : Next R B (put_pair S.waits a b q) b (step R b (S.station b) a (Settle e ok))
+    settle-done : Next R B (put_pair S.waits a b q) b (step R b (S.station b) a (Some (Settle e ok)))
     settle-done = rw (lt-ltb e R.events from-owner.0, eq-eqb (R.owner e) a from-owner.1)
         (let k = settle_is in
         let w = freed-works R L A B.table.marking G.invariant a b e ok k.0 in
         let v = freed-underway R L A B.table.marking G.invariant a b e ok k.0 in
-        let c = G.counted in (
-          record {
-            locking = freed R A a b e ok;
-            invariant = freed-inv R L eight A B.table.marking G.invariant a b e ok k.0;
-            shown = freed-shows R L S A G.shown G.invariant.valid a b e ok q hd k.0 from-owner.0 k.1;
-            asked = λ s. G.asked s ∙ sym (same-open (hands_over R A a b s) (marks_after R A b e ok) (A.phase s));
-            answers = G.answers;
-            no_stray = G.no_stray;
-            counted = omega arith;
-          },
-          (refl, refl, refl),
-        ))
+        let c = G.counted in
+        silent (put_pair S.waits a b q) (settled R (S.station b) a b e ok) refl (freed R A a b e ok)
+        (freed-inv R L eight A B.table.marking G.invariant a b e ok k.0)
+        (freed-shows R L S A G.shown G.invariant.valid a b e ok q hd k.0 from-owner.0 k.1)
+        (λ s. G.asked s ∙ sym (same-open (hands_over R A a b s) (marks_after R A b e ok) (A.phase s))) (omega arith))
 
   -- a grant
-  module _ (f : ℕ) (x : Marks) (q : List Note) (hd : S.waits a b ≡ Grant f x ∷ q) where
+  module _ (f : ℕ) (x : Marks) (q : List (Option Note)) (hd : S.waits a b ≡ Some (Grant f x) ∷ q) where
     grant-is : (e : ℕ) × (known : ℕ → Marks) × (A.phase b ≡ busy e f known (given x)) × (R.owner f ≡ a) × (only_grants q ≡ [])
     grant-is = grant-head R (A.phase b) a f x (only_grants q) (sym (ap only_grants hd) ∙ G.shown.grants_of a b)
 
@@ -176,18 +155,10 @@ module _ (R : Meaning) (L : Lawful R) (eight : R.stations ≤ 8) (B : Both) (G :
         let lk : R.locks e g' ≡ true = grind (arith, nat_tests) in
         let gap : (j : ℕ) → f < j → j < g' → R.locks e j ≡ false = λ j h i. let t2 = t.2 j i in grind (arith, nat_tests) in
         let w = more-works R L A B.table.marking G.invariant b e f x known at g' up gap in
-        let c = G.counted in (
-          record {
-            locking = more A b e f x g' known;
-            invariant = more-inv R L A B.table.marking G.invariant b e f x g' known at up lk gap;
-            shown = more-shows R S A G.shown a b e f x known q hd at k.3 k.4 l g' up gap;
-            asked = λ s. let o = G.asked s in grind (arith, nat_tests);
-            answers = G.answers;
-            no_stray = G.no_stray;
-            counted = omega arith;
-          },
-          (refl, refl, refl),
-        )
+        let c = G.counted in
+        silent (put_pair S.waits a b q) (goes_on R (S.station b) e (had_more had f) (put known f x) (Some g')) refl (more A b e f x g' known)
+        (more-inv R L A B.table.marking G.invariant b e f x g' known at up lk gap)
+        (more-shows R S A G.shown a b e f x known q hd at k.3 k.4 l g' up gap) (λ s. let o = G.asked s in grind (arith, nat_tests)) (omega arith)
     grant-next None t =
         let k = grant-is in let at = k.2 in let l = asks-for.2 in let ow = asks-for.1 in
         let end : (j : ℕ) → f < j → R.locks e j ≡ false = λ j h. let t2 = t j in let w = L.locks_events e j asks-for.0 in grind (arith, nat_tests) in
@@ -218,36 +189,34 @@ module _ (R : Meaning) (L : Lawful R) (eight : R.stations ≤ 8) (B : Both) (G :
           (refl, (let d = same-due R B.table.asked e (R.owner e) (L.owners_are_stations e asks-for.0) (let o = G.asked (R.owner e) in cc) in omega arith), (let d = same-opens R B.table.asked e (R.owner e) (L.owners_are_stations e asks-for.0) (let o = G.asked (R.owner e) in cc) in omega arith)),
         )
 
-    grant-done : Next R B (put_pair S.waits a b q) b (step R b (S.station b) a (Grant f x))
+    grant-done : Next R B (put_pair S.waits a b q) b (step R b (S.station b) a (Some (Grant f x)))
     grant-done =
         subst (Next R B (put_pair S.waits a b q) b) (sym fitting)
         (grant-next (missing R e (had_more had f)) (lowest-tells (λ k. R.locks e k && not (had_more had f k)) R.events))
 
-  pub carry-next : (m : Note) (q : List Note) → S.waits a b ≡ m ∷ q → Next R B (put_pair S.waits a b q) b (step R b (S.station b) a m)
-  carry-next (Ask f) q h = ask-done f q h
-  carry-next (Grant f x) q h = grant-done f x q h
-  carry-next (Settle e ok) q h = settle-done e ok q h
-  carry-next Unreadable q h = absurd (other-head R (A.underway a b) (A.phase a) b (others q) (sym (ap others h) ∙ G.shown.others_of a b))
+  pub carry-next : (m : Option Note) (q : List (Option Note)) → S.waits a b ≡ m ∷ q → Next R B (put_pair S.waits a b q) b (step R b (S.station b) a m)
+  carry-next (Some (Ask f)) q h = ask-done f q h
+  carry-next (Some (Grant f x)) q h = grant-done f x q h
+  carry-next (Some (Settle e ok)) q h = settle-done e ok q h
+  carry-next None q h = absurd (other-head R (A.underway a b) (A.phase a) b (others q) (sym (ap others h) ∙ G.shown.others_of a b))
 
 -- whatever the step does
-pub shown_of : (R : Meaning) (B : Both) (w : Delivery) (S : Site) → (g : InStep R (after R B S w)) → Shows R S g.locking
-shown_of R B Nothing S g = g.shown
-shown_of R B Carried S g = g.shown
-shown_of R B (Answered d) S g = g.shown
-shown_of R B Stray S g = g.shown
+pub shown_of : (R : Meaning) (B : Both) (w : Option Delivery) (S : Site) → (g : InStep R (after R B S w)) → Shows R S g.locking
+shown_of R B (Some (Ok (Some d))) S g = g.shown
+shown_of R B w S g = g.shown
 
 -- its posts find room
-pub moves_next : (R : Meaning) (limit : ℕ) → 3 ≤ limit → (B : Both) (Q : ℕ → ℕ → List Note) (b : ℕ) (t : Step) (A : Locking) →
+pub moves_next : (R : Meaning) (limit : ℕ) → 3 ≤ limit → (B : Both) (Q : ℕ → ℕ → List (Option Note)) (b : ℕ) (t : Step) (A : Locking) →
     Shows R (moved B.site Q b t) A → room_for limit Q b t.posts ≡ true
 moves_next R limit l B Q b t A r = room-for limit Q b t.posts (λ y. let k = room R (moved B.site Q b t) A r b y in omega arith)
 
 module _ (R : Meaning) (L : Lawful R) (eight : R.stations ≤ 8) (limit : ℕ) (enough : 3 ≤ limit) (B : Both) (G : InStep R B) (a b : ℕ) where
-  carry-moves : (Q : ℕ → ℕ → List Note) (t : Step) → Next R B Q b t →
+  carry-moves : (Q : ℕ → ℕ → List (Option Note)) (t : Step) → Next R B Q b t →
       InStep R (after R B (moves limit B.site Q b t).site (moves limit B.site Q b t).delivery) × Spent R B
       (after R B (moves limit B.site Q b t).site (moves limit B.site Q b t).delivery)
-  carry-moves Q t n = rw (moves_next R limit enough B Q b t n.0.locking (shown_of R B t.delivery (moved B.site Q b t) n.0)) n
+  carry-moves Q t n = rw (moves_next R limit enough B Q b t n.0.locking (shown_of R B (Some t.delivery) (moved B.site Q b t) n.0)) n
 
-  carry-go : (q : List Note) → B.site.waits a b ≡ q →
+  carry-go : (q : List (Option Note)) → B.site.waits a b ≡ q →
       InStep R (after R B (carry R limit B.site a b q).site (carry R limit B.site a b q).delivery)
   carry-go [] h = G
   carry-go (m ∷ q) h = (carry-moves (put_pair B.site.waits a b q) (step R b (B.site.station b) a m) (carry-next R L eight B G a b m q h)).0
@@ -255,7 +224,7 @@ module _ (R : Meaning) (L : Lawful R) (eight : R.stations ≤ 8) (limit : ℕ) (
   pub carry-good : InStep R (carry_one R limit B a b)
   carry-good = carry-go (B.site.waits a b) refl
 
-  spent-go : (q : List Note) → B.site.waits a b ≡ q → (q ≡ [] → ⊥) →
+  spent-go : (q : List (Option Note)) → B.site.waits a b ≡ q → (q ≡ [] → ⊥) →
       Spent R B (after R B (carry R limit B.site a b q).site (carry R limit B.site a b q).delivery)
   spent-go [] h n = absurd (n refl)
   spent-go (m ∷ q) h n = (carry-moves (put_pair B.site.waits a b q) (step R b (B.site.station b) a m) (carry-next R L eight B G a b m q h)).1

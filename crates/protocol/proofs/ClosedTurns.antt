@@ -1,13 +1,13 @@
 -- A call of a closed site, and of any site.
-use Rattle.std.proofs.Common.{◌≡◌, ℕ, ◌≤◌, Bool, true, false, not, List, [], Some, None, Option, sym, refl, subst, inl, inr, arith}
+use Rattle.std.proofs.Common.{◌≡◌, ℕ, ◌≤◌, Bool, true, false, not, List, [], Some, None, Option, sym, refl, subst, inl, inr, arith, Ok, Err}
 use mathlib.Core.Path.{fun_ext}
 use Rattle.std.proofs.lemmas.Bool.Decides.{nat_tests}
 use Rattle.std.proofs.lemmas.Bool.{cases_lt}
 use Rattle.rules.specs.Rule.{Meaning}
 use Rattle.protocol.specs.declared.call.Call.{Call}
-use Rattle.protocol.specs.declared.call.Call.TheVariants.{Start, Request, Carry, Settle, WorkList, Tally}
-use Rattle.protocol.specs.declared.call.Outcome.{Outcome}
-use Rattle.protocol.specs.declared.call.Outcome.TheVariants.{Refused, Started}
+use Rattle.protocol.specs.declared.call.Call.TheVariants.{Start, Request, Carry, Settle}
+use Rattle.protocol.specs.Outcomes.{Outcome}
+use Rattle.protocol.specs.declared.call.Reply.TheVariants.{Started}
 use Rattle.protocol.specs.declared.refusal.Refusal.TheVariants.{WrongState}
 use Rattle.protocol.specs.Station.{fresh}
 use Rattle.protocol.specs.Sites.{Site, fresh_site}
@@ -28,9 +28,9 @@ module _ (R : Meaning) (limit : ℕ) (S : Site) (C : Closed (record { is_open = 
   abbrev shut : Status
   shut = record { is_open = false; site = S }
 
-  refused : (c : Call) → Says R None c (Refused WrongState) → turned R None (turn_of c (Refused WrongState) [] shut) ≡ None →
-      Turned R None (turn_of c (Refused WrongState) [] shut)
-  refused c s e = still-turn R None c (Refused WrongState) shut (λ e. grind arith) (subst (Sound R shut) (sym e) C) s tt
+  refused : (c : Call) → Says R None c (Err WrongState) → turned R None (turn_of c (Err WrongState) [] shut) ≡ None →
+      Turned R None (turn_of c (Err WrongState) [] shut)
+  refused c s e = still-turn R None c (Err WrongState) shut (λ e. grind arith) (subst (Sound R shut) (sym e) C) s tt
 
   still-here : waiting S ≡ false → Still S
   still-here w a b = elim (cases_lt a 8) [
@@ -56,23 +56,17 @@ module _ (R : Meaning) (limit : ℕ) (S : Site) (C : Closed (record { is_open = 
       Obeys R limit shut (turn_of Start o xs g) (unless t WrongState None) → Turned R None (turn_of Start o xs g)
   start-turn o xs g false w d = placed R None Start d (refused Start tt refl)
   start-turn o xs g true w d =
-      placed R None Start d (still-turn R None Start Started (opened started) tt (refl, refl, starts-well (grind arith)) tt tt)
+      placed R None Start d (still-turn R None Start (Ok Started) (opened started) tt (refl, refl, starts-well (grind arith)) tt tt)
 
   closed-turn : (c : Call) (o : Outcome) (xs : List Transfer) (g : Status) → Serves R limit shut (turn_of c o xs g) → Turned R None (turn_of c o xs g)
   closed-turn Start o xs g d = start-turn o xs g (not (waiting S)) refl d
-  closed-turn (Request s e) o xs g d = placed R None (Request s e) d (refused (Request s e) refl refl)
-  closed-turn (Carry a b) o xs g d = placed R None (Carry a b) d (refused (Carry a b) refl refl)
-  closed-turn (Settle n) o xs g d = placed R None (Settle n) d (refused (Settle n) refl refl)
-  closed-turn WorkList o xs g d = placed R None WorkList d (refused WorkList refl refl)
-  closed-turn (Tally s) o xs g d = placed R None (Tally s) d (refused (Tally s) refl refl)
+  closed-turn c o xs g d = placed R None c d (refused c refl refl)
 
 never-fails-closed : (R : Meaning) (limit : ℕ) (S : Site) (c : Call) (g : Status) → Fails R limit (record { is_open = false; site = S }) c g → ⊥
-never-fails-closed R limit S Start g f = f
 never-fails-closed R limit S (Request s e) g f = let h = f.0 in grind arith
 never-fails-closed R limit S (Carry a b) g f = let h = f.0 in grind arith
 never-fails-closed R limit S (Settle n) g f = let h = f.0 in grind arith
-never-fails-closed R limit S WorkList g f = f
-never-fails-closed R limit S (Tally s) g f = f
+never-fails-closed R limit S _ g f = f
 
 module _ (R : Meaning) (P : Proper R) (limit : ℕ) (enough : 3 ≤ limit) where
   is-closed : (h : Status) → Closed h → h ≡ record { is_open = false; site = h.site }

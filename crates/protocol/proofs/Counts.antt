@@ -13,8 +13,7 @@ use Rattle.protocol.proofs.Locking.{Stage, requested, waits, given, Phase, idle,
 -- what has been carried for an open request, and what is left
 abbrev pub past : Stage → ℕ
 past requested = 0
-past waits = 1
-past (given x) = 1
+past stage = 1
 
 unfoldable pub worked : Meaning → Phase → ℕ
 worked R idle = 0
@@ -23,8 +22,7 @@ worked R (busy e g known stage) = 2 * count (λ f. R.locks e f && ltb f g) R.eve
 unfoldable pub left : Meaning → Phase → ℕ
 left R idle = 0
 left R (busy e g known requested) = 2 * count (λ f. R.locks e f && ltb g f) R.events + 2 + count (concerned R e) R.stations
-left R (busy e g known waits) = 2 * count (λ f. R.locks e f && ltb g f) R.events + 1 + count (concerned R e) R.stations
-left R (busy e g known (given x)) = 2 * count (λ f. R.locks e f && ltb g f) R.events + 1 + count (concerned R e) R.stations
+left R (busy e g known stage) = 2 * count (λ f. R.locks e f && ltb g f) R.events + 1 + count (concerned R e) R.stations
 
 -- settles under way
 abbrev pub row : Meaning → Locking → ℕ → ℕ
@@ -183,8 +181,7 @@ module _ (R : Meaning) (L : Lawful R) where
   unfolding left worked
   left-worked s idle h = refl
   left-worked s (busy e g known requested) h = let c = count-split e g h.0 h.2 in omega arith
-  left-worked s (busy e g known waits) h = let c = count-split e g h.0 h.2 in omega arith
-  left-worked s (busy e g known (given x)) h = let c = count-split e g h.0 h.2 in omega arith
+  left-worked s (busy e g known stage) h = let c = count-split e g h.0 h.2 in omega arith
 
   pub lefts-works : (A : Locking) (M : ℕ → Marks) → Invariant R A M →
       work_left R A + work_done R A ≡ total (λ s. open_cost R (open_of (A.phase s))) R.stations
@@ -199,5 +196,4 @@ module _ (R : Meaning) (L : Lawful R) where
   unfolding left
   no-left idle h = refl
   no-left (busy e g known requested) h = absurd (omega arith)
-  no-left (busy e g known waits) h = absurd (omega arith)
-  no-left (busy e g known (given x)) h = absurd (omega arith)
+  no-left (busy e g known stage) h = absurd (omega arith)

@@ -4,7 +4,7 @@ use native.Mathlib.Nat.{add-mul-div_right}
 use lib.Pow.{high}
 use Rattle.std.proofs.lemmas.Bool.Decides.{nat_tests}
 use Rattle.std.proofs.lemmas.Bool.{cases_order}
-use Rattle.events.specs.declared.event_set.EventSet.{EventSet}
+use Rattle.events.specs.Sets.{EventSet}
 use Rattle.events.specs.Members.{member}
 use Rattle.events.proofs.MemberLaws.{member-past}
 use Rattle.protocol.specs.Costs.{total}
@@ -55,6 +55,6 @@ set-members : (p : ℕ → Bool) (n k : ℕ) → member (bits_of p n) k ≡ (ltb
 set-members p zero k = member-past zero 0 k (omega arith) (omega arith) ∙ grind (arith, nat_tests)
 set-members p (suc n) k = set-step p n k (p n) refl (set-members p n k)
 
-pub sets-hold : SetsHold
+pub sets_hold : SetsHold
 unfolding set_of
-sets-hold = set-members
+sets_hold = set-members

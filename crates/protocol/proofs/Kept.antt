@@ -1,11 +1,12 @@
 -- The promise is kept.
-use Rattle.std.proofs.Common.{◌≡◌, ℕ, ◌≤◌, List, [], ◌∷◌, ◌++◌, map, length, Some, None, Option, sym, refl, ap, ◌∙◌, subst, subst₂, inl, inr}
+use Rattle.std.proofs.Common.{◌≡◌, ℕ, ◌≤◌, List, [], ◌∷◌, ◌++◌, map, length, Some, None, Option, sym, refl, ap, ◌∙◌, subst, subst₂, inl, inr, arith, Ok, Err}
 use mathlib.Core.List.{map-append}
 use Rattle.rules.specs.Rule.{Meaning}
 use Rattle.protocol.specs.declared.answer.Answer.{Answer}
 use Rattle.protocol.specs.declared.call.Call.{Call}
-use Rattle.protocol.specs.declared.call.Outcome.{Outcome}
-use Rattle.protocol.specs.declared.call.Outcome.TheVariants.{Refused, Settled}
+use Rattle.protocol.specs.Outcomes.{Outcome}
+use Rattle.protocol.specs.declared.answer.Answers.{Answers}
+use Rattle.protocol.specs.declared.call.Reply.TheVariants.{Settled}
 use Rattle.protocol.specs.declared.refusal.Refusal.TheVariants.{Stray}
 use Rattle.std.specs.List.{AllByRecursion}
 use Rattle.std.proofs.ByRecursion.{All-append, All-weaker}
@@ -21,8 +22,7 @@ use Rattle.protocol.proofs.Turning.{machine_of, Sound}
 use Rattle.protocol.proofs.ClosedTurns.{any-turn, never-fails}
 
 machine-at : (S : Site) (v : List Answer) (n : ℕ) (x : Option Machine) → machine_of (moment_of S v n x) ≡ x
-machine-at S v n None = refl
-machine-at S v n (Some m) = refl
+machine-at S v n x = grind arith
 
 machine-next : (R : Meaning) (o : Option Moment) (t : Turn) → machine_of (turned R o t) ≡ heard R (machine_of o) t.call t.outcome
 machine-next R None t = machine-at t.after.site [] 0 (heard R None t.call t.outcome)
@@ -42,10 +42,10 @@ outcomes_of ts = map (λ (t : Turn). t.outcome) ts
 -- what is shown of turns in a row
 pub record Along (R : Meaning) (last : Status) (o : Option Moment) (ts : List Turn) : Type 0 where
   pub replays : Replays R (machine_of o) (calls_of ts) (outcomes_of ts)
-  pub never_stray : AllByRecursion (λ o. o ≡ Refused Stray → ⊥) (outcomes_of ts)
+  pub never_stray : AllByRecursion (λ o. o ≡ Err Stray → ⊥) (outcomes_of ts)
   pub few : AllByRecursion (λ t. length (answers_of t.outcome) ≤ 8) ts
   pub short : AllByRecursion (λ t. length t.transfers ≤ 1152) ts
-  pub ends : AllByRecursion (λ t. (table : List Answer) (k n : ℕ) → t.outcome ≡ Settled table k n → Still t.after.site) ts
+  pub ends : AllByRecursion (λ t. (answers : Answers) (n : ℕ) → t.outcome ≡ Ok (Settled answers n) → Still t.after.site) ts
   pub sound : (x : Option Moment) × Sound R last x
   pub coherent : AllByRecursion (Coherent R) (moments R o ts)
   pub lists : ListsAll R o ts

@@ -27,14 +27,12 @@ pub record Locking : Type 0 where
   pub underway : ℕ → ℕ → Settling
 
 abbrev pub is_given : Stage → Bool
-is_given requested = false
-is_given waits = false
 is_given (given x) = true
+is_given stage = false
 
 abbrev pub is_waiting : Stage → Bool
-is_waiting requested = false
 is_waiting waits = true
-is_waiting (given x) = false
+is_waiting stage = false
 
 module _ (R : Meaning) where
   -- station in phase p has the lock of f
@@ -57,9 +55,8 @@ is_settling (settling e ok) = true
 -- the marks that are noted or on their way
 unfoldable pub knows : Meaning → Phase → ℕ → Marks → Type 0
 knows R idle f x = ⊥
-knows R (busy e g seen requested) f x = (R.locks e f ≡ true) × (f < g) × (seen f ≡ x)
-knows R (busy e g seen waits) f x = (R.locks e f ≡ true) × (f < g) × (seen f ≡ x)
 knows R (busy e g seen (given y)) f x = ((R.locks e f ≡ true) × (f < g) × (seen f ≡ x)) ⊎ ((f ≡ g) × (y ≡ x))
+knows R (busy e g seen stage) f x = (R.locks e f ≡ true) × (f < g) × (seen f ≡ x)
 
 abbrev pub Valid : Meaning → ℕ → Phase → Type 0
 Valid R s idle = Unit {0}
@@ -71,9 +68,8 @@ Sent R a b (settling e ok) = (e < R.events) × (R.owner e ≡ a) × (a < R.stati
 
 -- what the table has of f
 abbrev pub view_at : Meaning → Settling → (ℕ → Marks) → ℕ → Marks
-view_at R clear marks f = marks f
 view_at R (settling e true) marks f = R.does e marks f
-view_at R (settling e false) marks f = marks f
+view_at R t marks f = marks f
 
 abbrev pub view : Meaning → Locking → Option ℕ → ℕ → Marks
 view R A None f = A.marks f
@@ -139,10 +135,8 @@ abbrev pub marks_after : Meaning → Locking → ℕ → ℕ → Bool → ℕ �
 marks_after R A b e ok f = cond (owns R b f && ok) (R.does e A.marks f) (A.marks f)
 
 abbrev pub granting : (ℕ → Bool) → (ℕ → Marks) → Phase → Phase
-granting p m idle = idle
-granting p m (busy e g known requested) = busy e g known requested
 granting p m (busy e g known waits) = busy e g known (cond (p g) (given (m g)) waits)
-granting p m (busy e g known (given x)) = busy e g known (given x)
+granting p m q = q
 
 abbrev pub freed : Meaning → Locking → ℕ → ℕ → ℕ → Bool → Locking
 freed R A a b e ok = record {

@@ -1,11 +1,11 @@
 -- The last grant keeps the invariant, and the decision is that of the whole marking.
-use Rattle.std.proofs.Common.{◌≡◌, ℕ, ◌<◌, Bool, true, false, cond, ◌&&◌, ◌||◌, eqb, arith, is_some}
+use Rattle.std.proofs.Common.{◌≡◌, ℕ, ◌<◌, Bool, true, false, cond, ◌&&◌, eqb, arith}
 use Rattle.std.proofs.lemmas.Bool.Decides.{nat_tests}
 use Rattle.events.specs.declared.marks.Marks.{Marks}
 use Rattle.rules.specs.Rule.{Meaning, Lawful}
-use Rattle.protocol.specs.Station.{put, is, concerned}
+use Rattle.protocol.specs.Station.{put, concerned}
 use Rattle.protocol.proofs.Lowest.{lowest-has, lowest-get}
-use Rattle.protocol.proofs.Locking.{requested, waits, given, Phase, idle, busy, clear, Locking, has, waits_for, covers, is_settling, knows, Valid, Sent, view, Invariant, done}
+use Rattle.protocol.proofs.Locking.{given, Phase, idle, busy, clear, Locking, has, waits_for, knows, Valid, Invariant, done}
 
 -- a station is concerned exactly if it owns an event of the lock set
 pub concerned-from : (R : Meaning) (e c : ℕ) → concerned R e c ≡ true → (f : ℕ) × (R.locks e f ≡ true) × (R.owner f ≡ c)
@@ -26,9 +26,8 @@ concerned-station R L e c le h =
 pub knows-in : (R : Meaning) → Lawful R → (t : ℕ) (p : Phase) (f : ℕ) (x : Marks) → Valid R t p → knows R p f x → f < R.events
 unfolding has waits_for knows
 knows-in R L t idle f x h k = absurd k
-knows-in R L t (busy e g known requested) f x h k = L.locks_events e f h.0 k.0
-knows-in R L t (busy e g known waits) f x h k = L.locks_events e f h.0 k.0
 knows-in R L t (busy e g known (given y)) f x h k = let w = L.locks_events e f h.0 in let v = L.locks_events e g h.0 h.2 in grind arith
+knows-in R L t (busy e g known stage) f x h k = L.locks_events e f h.0 k.0
 
 pub knows_has : (R : Meaning) (p : Phase) (f : ℕ) (x : Marks) → knows R p f x → has R p f ≡ true
 unfolding has waits_for knows
@@ -54,53 +53,28 @@ module _ (R : Meaning) (L : Lawful R) (A : Locking) (M : ℕ → Marks) (I : Inv
   same-decision = L.decides_by_locks e (put known g x) M ev all_seen
 
   module _ (ok : Bool) where
-    abbrev N : Locking
-    N = done R A b e ok
-
-    abbrev W' : ℕ → Marks
-    W' f = cond ok (R.does e M f) (M f)
-
     pub was-clear : (c : ℕ) → concerned R e c ≡ true → A.underway b c ≡ clear
     unfolding has waits_for knows
     was-clear c h =
         let k = concerned-from R e c h in let n = I.apart b k.0 in let m = has_all k.0 in let k1 = k.1 in let k2 = k.2 in
         grind (arith, nat_tests)
 
-    holds : (t f : ℕ) → is (N.holder f) t ≡ (has R (N.phase t) f || covers R (N.underway t (R.owner f)) f)
-    unfolding has waits_for knows
-    holds t f = let h = I.holds t f in let l = has_all f in let k = concerned-to R L e f ev in let c = was-clear (R.owner f) in grind (arith, nat_tests)
-
-    valid : (t : ℕ) → Valid R t (N.phase t)
-    unfolding has waits_for knows
-    valid t = let h = I.valid t in grind (arith, nat_tests)
-
-    apart : (t f : ℕ) → is_settling (N.underway t (R.owner f)) ≡ true → (has R (N.phase t) f || waits_for R (N.phase t) f) ≡ false
-    unfolding has waits_for knows
-    apart t f q = let h = I.apart t f in grind (arith, nat_tests)
-
-    held : (t f : ℕ) → waits_for R (N.phase t) f ≡ true → is_some (N.holder f) ≡ true
-    unfolding has waits_for knows
-    held t f q = let h = I.held t f in grind (arith, nat_tests)
-
-    seen : (f : ℕ) → f < R.events → W' f ≡ view R N (N.holder f) f
-    unfolding has waits_for knows
-    seen f q =
-        let h = I.seen f q in let i = I.holds b f in let l = has_all f in let k = concerned-to R L e f ev in
-        let c = was-clear (R.owner f) in let w = L.keeps_others e M f ev in let v = L.acts_on_each e M A.marks f ev in
-        grind (arith, nat_tests)
-
-    noted : (t f : ℕ) (y : Marks) → knows R (N.phase t) f y → y ≡ W' f
-    unfolding has waits_for knows
-    noted t f y q =
-        let h = I.noted t f y in let k = knows_has R (A.phase t) f y in let i = I.holds b f in let j = I.holds t f in
-        let l = has_all f in let w = L.keeps_others e M f ev in let fe = knows-in R L t (A.phase t) f y (I.valid t) in
-        grind (arith, nat_tests)
-
-    sent : (t c : ℕ) → Sent R t c (N.underway t c)
-    unfolding has waits_for knows
-    sent t c =
-        let h = I.sent t c in let i = I.valid b in let o = L.owners_are_stations e in let k = concerned-station R L e c ev in grind (arith, nat_tests)
-
     pub done-inv : Invariant R (done R A b e ok) (λ f. cond ok (R.does e M f) (M f))
     unfolding has waits_for knows
-    done-inv = record { sent = sent; valid = valid; holds = holds; apart = apart; held = held; seen = seen; noted = noted }
+    done-inv = record {
+      sent = λ t c.
+          let h = I.sent t c in let i = I.valid b in let o = L.owners_are_stations e in let k = concerned-station R L e c ev in grind (arith, nat_tests);
+      valid = λ t. let h = I.valid t in grind (arith, nat_tests);
+      holds = λ t f.
+          let h = I.holds t f in let l = has_all f in let k = concerned-to R L e f ev in let c = was-clear (R.owner f) in grind (arith, nat_tests);
+      apart = λ t f q. let h = I.apart t f in grind (arith, nat_tests);
+      held = λ t f q. let h = I.held t f in grind (arith, nat_tests);
+      seen = λ f q.
+          let h = I.seen f q in let i = I.holds b f in let l = has_all f in let k = concerned-to R L e f ev in
+          let c = was-clear (R.owner f) in let w = L.keeps_others e M f ev in let v = L.acts_on_each e M A.marks f ev in
+          grind (arith, nat_tests);
+      noted = λ t f y q.
+          let h = I.noted t f y in let k = knows_has R (A.phase t) f y in let i = I.holds b f in let j = I.holds t f in
+          let l = has_all f in let w = L.keeps_others e M f ev in let fe = knows-in R L t (A.phase t) f y (I.valid t) in
+          grind (arith, nat_tests);
+    }

@@ -3,7 +3,7 @@ use Rattle.std.proofs.Common.{◌≡◌, ℕ, ◌<◌, true, false, arith}
 use Rattle.std.proofs.lemmas.Bool.Decides.{nat_tests}
 use Rattle.events.specs.declared.marks.Marks.{Marks}
 use Rattle.rules.specs.Rule.{Meaning, Lawful}
-use Rattle.protocol.proofs.Locking.{given, busy, Locking, has, waits_for, knows, Valid, Invariant, more}
+use Rattle.protocol.proofs.Locking.{given, busy, Locking, has, waits_for, knows, Invariant, more}
 
 module _ (R : Meaning) (L : Lawful R) (A : Locking) (M : ℕ → Marks) (I : Invariant R A M) (b e g : ℕ) (x : Marks) (g' : ℕ)
     (known : ℕ → Marks) (at : A.phase b ≡ busy e g known (given x))
@@ -19,22 +19,14 @@ module _ (R : Meaning) (L : Lawful R) (A : Locking) (M : ℕ → Marks) (I : Inv
   unfolding has waits_for knows
   same-waits t f = grind (arith, nat_tests)
 
-  valid : (t : ℕ) → Valid R t (N.phase t)
-  unfolding has waits_for knows
-  valid t = let h = I.valid t in grind (arith, nat_tests)
-
-  noted : (t f : ℕ) (y : Marks) → knows R (N.phase t) f y → y ≡ M f
-  unfolding has waits_for knows
-  noted t f y = let h = I.noted t f y in let h2 = I.noted b g x in let l = gap f in grind (arith, nat_tests)
-
   pub more-inv : Invariant R (more A b e g x g' known) M
   unfolding has waits_for knows
   more-inv = record {
     sent = I.sent;
-    valid = valid;
+    valid = λ t. let h = I.valid t in grind (arith, nat_tests);
     holds = λ t f. rw same-has (I.holds t f);
     apart = λ t f q. rw (same-has, same-waits) (I.apart t f q);
     held = λ t f q. I.held t f (rw same-waits at q);
     seen = I.seen;
-    noted = noted;
+    noted = λ t f y. let h = I.noted t f y in let h2 = I.noted b g x in let l = gap f in grind (arith, nat_tests);
   }

@@ -5,7 +5,7 @@ use Rattle.events.specs.declared.marks.Marks.{Marks}
 use Rattle.rules.specs.Rule.{Meaning, Lawful}
 use Rattle.protocol.specs.Station.{is}
 use Rattle.protocol.proofs.Lowest.{lowest-has, lowest_by}
-use Rattle.protocol.proofs.Locking.{requested, waits, given, Phase, idle, busy, clear, settling, Locking, has, waits_for, covers, is_settling, knows, Valid, Sent, view, Invariant, frees_lock, next_for, hands_over, marks_after, granting, freed}
+use Rattle.protocol.proofs.Locking.{waits, given, Phase, idle, busy, clear, settling, Locking, has, waits_for, knows, Valid, view, Invariant, frees_lock, next_for, hands_over, marks_after, granting, freed}
 
 pub has-granting : (R : Meaning) (p : ℕ → Bool) (m : ℕ → Marks) (q : Phase) (f : ℕ) → (p f ≡ true → waits_for R q f ≡ true) →
     has R (granting p m q) f ≡ (has R q f || p f)
@@ -19,9 +19,6 @@ waits-granting R p m q f = grind (arith, nat_tests)
 knows-granting : (R : Meaning) (p : ℕ → Bool) (m : ℕ → Marks) (q : Phase) (f : ℕ) (x : Marks) → knows R (granting p m q) f x →
     knows R q f x ⊎ ((p f ≡ true) × (m f ≡ x))
 unfolding has waits_for knows
-knows-granting R p m idle f x k = inl k
-knows-granting R p m (busy e g known requested) f x k = inl k
-knows-granting R p m (busy e g known (given y)) f x k = inl k
 knows-granting R p m (busy e g known waits) f x k = go (p g) refl k
   where
     go : (z : Bool) → p g ≡ z → knows R (busy e g known (cond z (given (m g)) waits)) f x →
@@ -29,6 +26,7 @@ knows-granting R p m (busy e g known waits) f x k = go (p g) refl k
     go true h (inl k) = inl k
     go true h (inr k) = inr (let e = k.0 in let d = k.1 in (grind arith, grind arith))
     go false h k = inl k
+knows-granting R p m q f x k = inl k
 
 pub waits_in : (R : Meaning) → Lawful R → (t f : ℕ) (q : Phase) → Valid R t q → waits_for R q f ≡ true → (t < R.stations) × (f < R.events)
 unfolding has waits_for knows
@@ -59,22 +57,6 @@ module _ (R : Meaning) (L : Lawful R) (eight : R.stations ≤ 8) (A : Locking) (
   freed-waits : (t f : ℕ) → waits_for R (N.phase t) f ≡ (waits_for R (A.phase t) f && not (hands_over R A a b t f))
   freed-waits t f = waits-granting R (hands_over R A a b t) (marks_after R A b e ok) (A.phase t) f
 
-  holds : (t f : ℕ) → is (N.holder f) t ≡ (has R (N.phase t) f || covers R (N.underway t (R.owner f)) f)
-  holds t f =
-      rw freed-has (let h = I.holds t f in let h2 = I.holds a f in let c = I.apart a f in let u = L.locks_events e f ev in grind (arith, nat_tests))
-
-  valid : (t : ℕ) → Valid R t (N.phase t)
-  unfolding has waits_for
-  valid t = let h = I.valid t in grind (arith, nat_tests)
-
-  apart : (t f : ℕ) → is_settling (N.underway t (R.owner f)) ≡ true → (has R (N.phase t) f || waits_for R (N.phase t) f) ≡ false
-  apart t f q = rw (freed-has, freed-waits) (let h = I.apart t f in let k = passed t f in grind (arith, nat_tests))
-
-  held : (t f : ℕ) → waits_for R (N.phase t) f ≡ true → is_some (N.holder f) ≡ true
-  held t f q =
-      let z = rw freed-waits at q in let h = I.held t f in let i = waits_in R L t f (A.phase t) (I.valid t) in let k = next-some f t in
-      grind (arith, nat_tests)
-
   freed-tells : (f : ℕ) → frees_lock R A a b f ≡ true → (R.owner f ≡ b) × (A.holder f ≡ Some a)
   freed-tells f q = (grind (arith, nat_tests), grind (arith, nat_tests))
 
@@ -95,9 +77,8 @@ module _ (R : Meaning) (L : Lawful R) (eight : R.stations ≤ 8) (A : Locking) (
     where
       kept-go : (o : Option ℕ) (z : Bool) → A.holder f ≡ o → eqb (R.owner f) b ≡ z → M f ≡ view R N o f
       kept-go None true h z = let i = I.seen f q in let k = kept-tells f q in let w = L.keeps_others e A.marks f ev in grind (arith, nat_tests)
-      kept-go None false h z = let i = I.seen f q in grind (arith, nat_tests)
       kept-go (Some t) true h z = let i = I.seen f q in let k = kept-tells f q in let w = L.keeps_others e A.marks f ev in grind (arith, nat_tests)
-      kept-go (Some t) false h z = let i = I.seen f q in grind (arith, nat_tests)
+      kept-go o false h z = let i = I.seen f q in grind (arith, nat_tests)
 
   seen-go : (f : ℕ) → f < R.events → (t : Bool) → frees_lock R A a b f ≡ t → M f ≡ view R N (cond t (next_for R A f) (A.holder f)) f
   seen-go f q true p = seen-freed f q p (next_for R A f) refl
@@ -114,8 +95,20 @@ module _ (R : Meaning) (L : Lawful R) (eight : R.stations ≤ 8) (A : Locking) (
         let z = seen f i.1 in let c = I.apart t f in grind (arith, nat_tests)
   ]
 
-  sent : (t c : ℕ) → Sent R t c (N.underway t c)
-  sent t c = let h = I.sent t c in grind (arith, nat_tests)
+  valid : (t : ℕ) → Valid R t (N.phase t)
+  unfolding has waits_for
+  valid t = let h = I.valid t in grind (arith, nat_tests)
 
   pub freed-inv : Invariant R (freed R A a b e ok) M
-  freed-inv = record { sent = sent; valid = valid; holds = holds; apart = apart; held = held; seen = seen; noted = noted }
+  freed-inv = record {
+    sent = λ t c. let h = I.sent t c in grind (arith, nat_tests);
+    valid = valid;
+    holds = λ t f.
+        rw freed-has (let h = I.holds t f in let h2 = I.holds a f in let c = I.apart a f in let u = L.locks_events e f ev in grind (arith, nat_tests));
+    apart = λ t f q. rw (freed-has, freed-waits) (let h = I.apart t f in let k = passed t f in grind (arith, nat_tests));
+    held = λ t f q.
+        let z = rw freed-waits at q in let h = I.held t f in let i = waits_in R L t f (A.phase t) (I.valid t) in let k = next-some f t in
+        grind (arith, nat_tests);
+    seen = seen;
+    noted = noted;
+  }

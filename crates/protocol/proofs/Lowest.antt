@@ -1,5 +1,5 @@
 -- What the lowest number that passes a test tells.
-use Rattle.std.proofs.Common.{◌≡◌, ℕ, ◌<◌, Bool, true, false, is_some, Some, None, Option, refl, arith}
+use Rattle.std.proofs.Common.{◌≡◌, ℕ, ◌<◌, Bool, true, is_some, Some, None, Option, refl, arith}
 use Rattle.std.proofs.lemmas.Bool.Decides.{nat_tests}
 use Rattle.rules.specs.Semantics.{lowest}
 use Rattle.rules.specs.Lowest.{Tells, lowest-tells}
@@ -27,10 +27,3 @@ get_tells p n (Some u) h q = (u, h.0)
 
 pub lowest-get : (p : ℕ → Bool) (n : ℕ) → is_some (lowest p n) ≡ true → (k : ℕ) × (p k ≡ true)
 lowest-get p n = get_tells p n (lowest p n) (lowest-tells p n)
-
-is-tells : (p : ℕ → Bool) (n : ℕ) (o : Option ℕ) → Tells p n o → (k : ℕ) → p k ≡ true → k < n → ((j : ℕ) → j < k → p j ≡ false) → o ≡ Some k
-is-tells p n None h k q l m = let z = h k l in grind arith
-is-tells p n (Some u) h k q l m = let z = h.0 in let y = h.2 k in let x = m u in grind arith
-
-pub lowest-is : (p : ℕ → Bool) (n k : ℕ) → p k ≡ true → k < n → ((j : ℕ) → j < k → p j ≡ false) → lowest p n ≡ Some k
-lowest-is p n = is-tells p n (lowest p n) (lowest-tells p n)

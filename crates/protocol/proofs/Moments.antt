@@ -1,11 +1,10 @@
 -- A message carried keeps the site in step with the machine.
-use Rattle.std.proofs.Common.{◌≡◌, ℕ, suc, ◌+◌, ◌≤◌, Bool, true, false, cond, not, ◌&&◌, List, [], ◌∷◌, ◌++◌, length, is_some, Some, None, Option, sym, refl, ap, ◌∙◌, subst, ap₂, append_assoc, append-nil, arith, length-append}
+use Rattle.std.proofs.Common.{◌≡◌, ℕ, suc, ◌+◌, ◌≤◌, Bool, true, false, cond, not, ◌&&◌, List, [], ◌∷◌, ◌++◌, length, is_some, Some, None, Option, sym, refl, ap, ◌∙◌, subst, ap₂, append_assoc, append-nil, arith, length-append, Ok, Err}
 use Rattle.std.proofs.lemmas.Bool.Decides.{nat_tests}
 use Rattle.lines.specs.declared.note.Note.{Note}
 use Rattle.rules.specs.Rule.{Meaning}
 use Rattle.protocol.specs.declared.answer.Answer.{Answer}
-use Rattle.protocol.specs.declared.delivery.Delivery.{Delivery}
-use Rattle.protocol.specs.declared.delivery.Delivery.TheVariants.{Nothing, Carried, Answered, Stray}
+use Rattle.protocol.specs.Outcomes.{Delivery}
 use Rattle.std.specs.List.{AllByRecursion}
 use Rattle.protocol.specs.Station.{Step, put_pair, is, step}
 use Rattle.protocol.specs.Queues.{Queues}
@@ -56,12 +55,10 @@ gives-append R m [] ys g h = h
 gives-append R m (x ∷ xs) ys g h = (g.0, g.1, gives-append R (answers R m x.event) xs ys g.2 h)
 
 judged-so : (b : Bool) (x y : Answer) → (x ∷ []) ≡ cond b (y ∷ []) [] → (b ≡ true) × (x ≡ y)
-judged-so true x y h = (refl, grind arith)
-judged-so false x y h = absurd (grind arith)
+judged-so b x y h = (grind arith, grind arith)
 
 by-some : (o : Option ℕ) (e : ℕ) → is o e ≡ true → o ≡ Some e
-by-some None e h = grind arith
-by-some (Some u) e h = let k : u ≡ e = grind (arith, nat_tests) in ap Some k
+by-some o e h = grind (arith, nat_tests)
 
 -- what is due, and what is open, are read off the costs and the table
 same-due : (R : Meaning) (C D : Both) → D.table ≡ C.table → D.costs ≡ C.costs → due R D ≡ due R C
@@ -83,13 +80,12 @@ module _ (R : Meaning) where
     pub dues : due R (both_of R n) ≡ due R (both_of R m)
     pub opens : length given + open_count R (both_of R n) ≡ open_count R (both_of R m)
 
-  lands : (m : Moment) (w : Delivery) (S : Site) → OwnOnly R S → InStep R (after R (both_of R m) S w) →
-      Spent R (both_of R m) (after R (both_of R m) S w) → Advances m (landed m (answer_of w) S) (one_answer (answer_of w))
-  lands m Nothing S own g p = let h = p.0 in absurd (omega arith)
-  lands m Stray S own g p = let h = g.no_stray in absurd (grind arith)
-  lands m Carried S own g p =
+  lands : (m : Moment) (w : Delivery) (S : Site) → OwnOnly R S → InStep R (after R (both_of R m) S (Some w)) →
+      Spent R (both_of R m) (after R (both_of R m) S (Some w)) → Advances m (landed m (answer_of w) S) (one_answer (answer_of w))
+  lands m (Err stray) S own g p = let h = g.no_stray in absurd (grind arith)
+  lands m (Ok None) S own g p =
       let B : Both = both_of R m in
-      let C : Both = after R B S Carried in
+      let C : Both = after R B S (Some (Ok None)) in
       let D : Both = both_of R (landed m None S) in
       let k : costs R (m.answers ++ []) ≡ costs R m.answers = ap (costs R) (append-nil m.answers) in
       let d = same-due R C D refl k in let p1 = p.1 in let p2 = p.2 in
@@ -99,9 +95,9 @@ module _ (R : Meaning) where
         dues = d ∙ p1;
         opens = (let z : 0 + open_count R B ≡ open_count R B = omega arith in p2 ∙ z);
       }
-  lands m (Answered a) S own g p =
+  lands m (Ok (Some a)) S own g p =
       let B : Both = both_of R m in
-      let C : Both = after R B S (Answered a) in
+      let C : Both = after R B S (Some (Ok (Some a))) in
       let D : Both = both_of R (landed m (Some a) S) in
       let j = judged-so (expects R m.machine a.event) a (decides R m.machine a.event) g.answers in
       let k : costs R (m.answers ++ a ∷ []) ≡ costs R m.answers + cost R a.event =
@@ -116,20 +112,17 @@ module _ (R : Meaning) where
       }
 
   module _ (P : Proper R) (limit : ℕ) (enough : 3 ≤ limit) where
-    not-stray : (B : Both) (S : Site) (w : Delivery) → InStep R (after R B S w) → is_stray w ≡ false
-    not-stray B S Nothing g = refl
-    not-stray B S Carried g = refl
-    not-stray B S (Answered a) g = refl
-    not-stray B S Stray g = let h = g.no_stray in grind arith
+    not-stray : (B : Both) (S : Site) (w : Delivery) → InStep R (after R B S (Some w)) → is_stray w ≡ false
+    not-stray B S w g = let h = g.no_stray in grind arith
 
     -- no message is stray, and no pair full
-    always-goes : (B : Both) → InStep R B → (a b : ℕ) (n : Note) (q : List Note) → B.site.waits a b ≡ n ∷ q →
+    always-goes : (B : Both) → InStep R B → (a b : ℕ) (n : Option Note) (q : List (Option Note)) → B.site.waits a b ≡ n ∷ q →
         goes limit (put_pair B.site.waits a b q) b (step R b (B.site.station b) a n) ≡ true
     always-goes B G a b n q h =
         let Q : Queues = put_pair B.site.waits a b q in
         let t : Step = step R b (B.site.station b) a n in
         let k = carry-next R P.lawful P.stations B G a b n q h in
-        let r = moves_next R limit enough B Q b t k.0.locking (shown_of R B t.delivery (moved B.site Q b t) k.0) in
+        let r = moves_next R limit enough B Q b t k.0.locking (shown_of R B (Some t.delivery) (moved B.site Q b t) k.0) in
         let s = not-stray B (moved B.site Q b t) t.delivery k.0 in
         ap₂ (λ (c d : Bool). not c && d) s r
 

@@ -18,8 +18,7 @@ use Rattle.protocol.proofs.Carrying.{InStep, carry-good, carry-spent}
 use Rattle.protocol.proofs.Run.{run-good, fresh-in_step}
 
 open-same : (R : Meaning) (p : Phase) → opens (request_of R p) ≡ open_of p
-open-same R idle = refl
-open-same R (busy e g known stage) = refl
+open-same R p = grind arith
 
 beyond : (R : Meaning) → Lawful R → (s : ℕ) (p : Phase) → Valid R s p → R.stations ≤ s → p ≡ idle
 beyond R L s idle f l = refl

@@ -1,5 +1,5 @@
 -- A call of an open site.
-use Rattle.std.proofs.Common.{◌≡◌, ℕ, ◌+◌, ◌<◌, ◌≤◌, Bool, true, false, not, ◌&&◌, eqb, ltb, List, [], ◌∷◌, ◌++◌, length, take, is_some, Some, None, Option, sym, refl, ap, ◌∙◌, subst, inl, inr, append-nil, arith}
+use Rattle.std.proofs.Common.{◌≡◌, ℕ, ◌+◌, ◌<◌, ◌≤◌, Bool, true, false, not, ◌&&◌, eqb, ltb, List, [], ◌∷◌, ◌++◌, length, is_some, Some, None, Option, sym, refl, ap, ◌∙◌, subst, inl, inr, append-nil, arith, Ok, Err}
 use Rattle.std.proofs.lemmas.Bool.Decides.{nat_tests}
 use Rattle.std.proofs.lemmas.Bool.{cases_lt, ltb-true, eqb-true}
 use Rattle.rules.specs.Rule.{Meaning}
@@ -8,8 +8,9 @@ use Rattle.rules.specs.Lowest.{Tells, lowest-tells}
 use Rattle.protocol.specs.declared.answer.Answer.{Answer}
 use Rattle.protocol.specs.declared.call.Call.{Call}
 use Rattle.protocol.specs.declared.call.Call.TheVariants.{Start, Request, Carry, Settle, WorkList, Tally}
-use Rattle.protocol.specs.declared.call.Outcome.{Outcome}
-use Rattle.protocol.specs.declared.call.Outcome.TheVariants.{Refused, Opened, Nothing, Carried, Answered, Settled}
+use Rattle.protocol.specs.Outcomes.{Outcome, entries}
+use Rattle.protocol.specs.declared.answer.Answers.{Answers}
+use Rattle.protocol.specs.declared.call.Reply.TheVariants.{Opened, Nothing, Carried, Answered, Settled}
 use Rattle.protocol.specs.declared.refusal.Refusal.{Refusal}
 use Rattle.protocol.specs.declared.refusal.Refusal.TheVariants.{UnknownStation, UnknownEvent, OtherOwner, RequestOpen, MessageWaits, WrongState, Stray, ShortTable}
 use Rattle.std.specs.List.{AllByRecursion}
@@ -109,11 +110,11 @@ module _ (R : Meaning) (P : Proper R) (limit : ℕ) (enough : 3 ≤ limit) (m : 
     request-turn : (o : Outcome) (xs : List Transfer) (g : Status) (x : Option Refusal) → refuses_request R m.machine s e ≡ x →
         Obeys R limit here (turn_of (Request s e) o xs g) x → Turned R (Some m) (turn_of (Request s e) o xs g)
     request-turn o xs g (Some n) h b = placed R (Some m) (Request s e) b
-        (unchanged (Request s e) (Refused n) (which (ltb s R.stations) (ltb e R.events) (eqb (R.owner e) s) (not (is_some (m.machine.asked s))) n h) (ap (requests m.machine s e) h) refl (sym (ap requested h)) tt)
+        (unchanged (Request s e) (Err n) (which (ltb s R.stations) (ltb e R.events) (eqb (R.owner e) s) (not (is_some (m.machine.asked s))) n h) (ap (requests m.machine s e) h) refl (sym (ap requested h)) tt)
     request-turn o xs g None h b =
         let S : Site = moved m.site m.site.waits s (asking R m.site s e) in
         placed R (Some m) (Request s e) b
-        (still-turn R (Some m) (Request s e) Opened (opened S) tt
+        (still-turn R (Some m) (Request s e) (Ok Opened) (opened S) tt
         (refl, refl, subst (λ (x : Option Refusal). Coherent R (unmoved m S (requests m.machine s e x))) (sym h) (asks-well h).1)
         (sym (ap requested h)) tt)
 
@@ -135,19 +136,19 @@ module _ (R : Meaning) (P : Proper R) (limit : ℕ) (enough : 3 ≤ limit) (m : 
       where
         go : (o : Option Answer) → Advances R m (later R m (record { from = a; to = b; answer = o; site = S })) (one_answer o) →
             Turned R (Some m) (turn_of (Carry a b) (carry_outcome o) (record { from = a; to = b; answer = o; site = S } ∷ []) (opened S))
-        go None h = brief-turn R (Some m) (Carry a b) Carried (record { from = a; to = b; answer = None; site = S } ∷ []) (opened S) tt (omega arith)
+        go None h = brief-turn R (Some m) (Carry a b) (Ok Carried) (record { from = a; to = b; answer = None; site = S } ∷ []) (opened S) tt (omega arith)
             (refl, refl, subst (λ (n : ℕ). Coherent R (record { site = S; machine = m.machine; answers = m.answers ++ []; carried = n })) (omega arith) h.coherent)
             tt (h.coherent, tt) tt
         go (Some v) h =
-            brief-turn R (Some m) (Carry a b) (Answered v) (record { from = a; to = b; answer = Some v; site = S } ∷ []) (opened S) tt (omega arith)
+            brief-turn R (Some m) (Carry a b) (Ok (Answered v)) (record { from = a; to = b; answer = Some v; site = S } ∷ []) (opened S) tt (omega arith)
             (refl, refl, subst (λ (n : ℕ). Coherent R (record { site = S; machine = gave R m.machine (v ∷ []); answers = m.answers ++ (v ∷ []); carried = n })) (omega arith) h.coherent)
             h.gives (h.coherent, tt) tt
 
     carry-turn : (o : Outcome) (xs : List Transfer) (g : Status) (t : Bool) →
         Obeys R limit here (turn_of (Carry a b) o xs g) (unless t UnknownStation None) → Turned R (Some m) (turn_of (Carry a b) o xs g)
-    carry-turn o xs g false d = placed R (Some m) (Carry a b) d (unchanged (Carry a b) (Refused UnknownStation) (λ e. grind arith) refl refl tt tt)
+    carry-turn o xs g false d = placed R (Some m) (Carry a b) d (unchanged (Carry a b) (Err UnknownStation) (λ e. grind arith) refl refl tt tt)
     carry-turn o xs g true d = elim d [
-      | inl n ↦ placed R (Some m) (Carry a b) (n.1, n.2, n.3) (unchanged (Carry a b) Nothing tt refl refl tt tt)
+      | inl n ↦ placed R (Some m) (Carry a b) (n.1, n.2, n.3) (unchanged (Carry a b) (Ok Nothing) tt refl refl tt tt)
       | inr c ↦ placed R (Some m) (Carry a b) (c.3, c.4, c.5) (one-transfer c.0 c.1 c.2)
     ]
 
@@ -199,24 +200,24 @@ module _ (R : Meaning) (P : Proper R) (limit : ℕ) (enough : 3 ≤ limit) (m : 
         let a = (agrees R P.lawful P.stations (both_of R last) reached.1.coherent.in_step limit enough).within in
         omega arith
 
-    settled-turn : (n : ℕ) (table : List Answer) (k : ℕ) → waiting S ≡ false → take k table ≡ answers_in xs →
-        Turned R (Some m) (turn_of (Settle n) (Settled table k (length xs)) xs (opened S))
-    settled-turn n table k w e = record {
+    settled-turn : (n : ℕ) (answers : Answers) → waiting S ≡ false → entries answers ≡ answers_in xs →
+        Turned R (Some m) (turn_of (Settle n) (Ok (Settled answers (length xs))) xs (opened S))
+    settled-turn n answers w e = record {
       sound =
           (refl, refl, subst (λ (v : List Answer). Coherent R (record { site = S; machine = gave R m.machine v; answers = m.answers ++ v; carried = m.carried + length xs })) (sym e) reached.1.coherent);
       says = subst (Gives R m.machine) (sym e) reached.1.gives;
       never_stray = λ e. grind arith;
       few = rw e few-answers;
       short = elim (cases_lt 1152 (length xs)) [ inl l ↦ absurd (not-long l) | inr l ↦ l ];
-      ends = λ _ _ _ _. all-taken w;
+      ends = λ _ _ _. all-taken w;
       within = reached.0;
       lists = tt;
     }
 
   settle-turn : (n : ℕ) (o : Outcome) (xs : List Transfer) (g : Status) (t : Bool) →
       Obeys R limit here (turn_of (Settle n) o xs g) (unless t ShortTable None) → Turned R (Some m) (turn_of (Settle n) o xs g)
-  settle-turn n o xs g false d = placed R (Some m) (Settle n) d (unchanged (Settle n) (Refused ShortTable) (λ e. grind arith) refl refl tt tt)
-  settle-turn n o xs g true d = placed R (Some m) (Settle n) (d.6, refl, d.3) (settled-turn xs d.0 d.1 n d.4 d.5 d.2 d.7)
+  settle-turn n o xs g false d = placed R (Some m) (Settle n) d (unchanged (Settle n) (Err ShortTable) (λ e. grind arith) refl refl tt tt)
+  settle-turn n o xs g true d = placed R (Some m) (Settle n) (d.5, refl, d.3) (settled-turn xs d.0 d.1 n d.4 d.2 d.6)
 
   -- ---- a work list and a tally
 
@@ -224,7 +225,7 @@ module _ (R : Meaning) (P : Proper R) (limit : ℕ) (enough : 3 ≤ limit) (m : 
       Obeys R limit here (turn_of WorkList o xs g) (unless t MessageWaits None) → Turned R (Some m) (turn_of WorkList o xs g)
   list-turn o xs g false w d =
       placed R (Some m) WorkList d
-      (unchanged WorkList (Refused MessageWaits) (λ e. grind arith) refl refl refl (λ still. let z = still-none m.site still in absurd (grind arith)))
+      (unchanged WorkList (Err MessageWaits) (λ e. grind arith) refl refl refl (λ still. let z = still-none m.site still in absurd (grind arith)))
   list-turn o xs g true w d =
       placed R (Some m) WorkList d (unchanged WorkList (listed R (gathered R m.site)) tt refl refl refl (same-list R P m G))
 
@@ -232,14 +233,14 @@ module _ (R : Meaning) (P : Proper R) (limit : ℕ) (enough : 3 ≤ limit) (m : 
       Obeys R limit here (turn_of (Tally s) o xs g) (unless t UnknownStation None) → Turned R (Some m) (turn_of (Tally s) o xs g)
   tally-turn s o xs g false w d =
       placed R (Some m) (Tally s) d
-      (unchanged (Tally s) (Refused UnknownStation) (λ e. grind arith) refl refl refl (λ still l. absurd (grind (arith, nat_tests))))
+      (unchanged (Tally s) (Err UnknownStation) (λ e. grind arith) refl refl refl (λ still l. absurd (grind (arith, nat_tests))))
   tally-turn s o xs g true w d =
       placed R (Some m) (Tally s) d
       (unchanged (Tally s) (tallied R (m.site.station s).marks s) tt refl refl refl (λ still l. same-tally R P m G still s))
 
   pub open_turn : (c : Call) (o : Outcome) (xs : List Transfer) (g : Status) → Serves R limit here (turn_of c o xs g) →
       Turned R (Some m) (turn_of c o xs g)
-  open_turn Start o xs g d = placed R (Some m) Start d (unchanged Start (Refused WrongState) (λ e. grind arith) refl refl refl tt)
+  open_turn Start o xs g d = placed R (Some m) Start d (unchanged Start (Err WrongState) (λ e. grind arith) refl refl refl tt)
   open_turn (Request s e) o xs g d =
       request-turn s e o xs g (refuses_request R m.machine s e) refl
       (subst (Obeys R limit here (turn_of (Request s e) o xs g)) (refuses-alike s e) d)
@@ -251,7 +252,6 @@ module _ (R : Meaning) (P : Proper R) (limit : ℕ) (enough : 3 ≤ limit) (m : 
   -- ---- what never happens
 
   pub never-fails-open : (c : Call) (g : Status) → Fails R limit here c g → ⊥
-  never-fails-open Start g f = f
   never-fails-open (Request s e) g f = let z = (asks-well s e (sym (refuses-alike s e) ∙ f.0)).0 in let y = f.1 in grind arith
   never-fails-open (Carry a b) g f = never_stuck R P limit enough m G a b f.1 f.2
   never-fails-open (Settle n) g f = elim f.5 [
@@ -261,5 +261,4 @@ module _ (R : Meaning) (P : Proper R) (limit : ℕ) (enough : 3 ≤ limit) (m : 
       | inr l ↦ (let z = few-answers f.1 f.2 f.4 in omega arith)
     ]
   ]
-  never-fails-open WorkList g f = f
-  never-fails-open (Tally s) g f = f
+  never-fails-open _ g f = f

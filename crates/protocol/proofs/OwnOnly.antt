@@ -5,7 +5,7 @@ use Rattle.std.proofs.lemmas.Bool.{eqb-true}
 use Rattle.events.specs.declared.marks.Marks.{Marks}
 use Rattle.events.specs.Marks.{unmarked}
 use Rattle.lines.specs.declared.note.Note.{Note}
-use Rattle.lines.specs.declared.note.Note.TheVariants.{Ask, Grant, Settle, Unreadable}
+use Rattle.lines.specs.declared.note.Note.TheVariants.{Ask, Grant, Settle}
 use Rattle.rules.specs.Rule.{Meaning}
 use Rattle.protocol.specs.Station.{Request, resting, asking, Station, Step, put, is, owns, missing, begins, asks, goes_on, had_more, strays, granted, settled, step}
 use Rattle.protocol.specs.Queues.{Queues}
@@ -51,11 +51,11 @@ module _ (R : Meaning) (b : ℕ) (S : Station) (own : OwnAt R b S) where
   own-settle a e ok true = own-settled a e ok
   own-settle a e ok false = own
 
-  pub own-step : (a : ℕ) (n : Note) → OwnAt R b (step R b S a n).station
-  own-step a (Ask f) = own-ask a f (owns R b f) refl
-  own-step a (Grant f x) = own_granted a f x S.request
-  own-step a (Settle e ok) = own-settle a e ok (owns R a e)
-  own-step a Unreadable = own
+  pub own-step : (a : ℕ) (n : Option Note) → OwnAt R b (step R b S a n).station
+  own-step a (Some (Ask f)) = own-ask a f (owns R b f) refl
+  own-step a (Some (Grant f x)) = own_granted a f x S.request
+  own-step a (Some (Settle e ok)) = own-settle a e ok (owns R a e)
+  own-step a None = own
 
   pub own-begins : (e : ℕ) (o : Option ℕ) → OwnAt R b (begins R S e o).station
   own-begins e None = own

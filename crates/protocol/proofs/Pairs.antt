@@ -1,5 +1,5 @@
 -- The lowest pair that holds a message.
-use Rattle.std.proofs.Common.{◌≡◌, ℕ, ◌+◌, ◌*◌, ◌/◌, ◌%◌, ◌<◌, Bool, true, false, List, [], ◌∷◌, is_some, Some, None, Option, refl, subst₂, arith}
+use Rattle.std.proofs.Common.{◌≡◌, ℕ, ◌+◌, ◌*◌, ◌/◌, ◌%◌, ◌<◌, Bool, true, false, List, [], is_some, Some, None, Option, refl, subst₂, arith}
 use Rattle.lines.specs.declared.note.Note.{Note}
 use Rattle.rules.specs.Lowest.{Tells, lowest-tells}
 use Rattle.protocol.specs.Queues.{Queues}
@@ -14,12 +14,11 @@ pub pair-tells : (Q : Queues) → Tells (holds_at Q) 64 (lowest_pair Q)
 unfolding lowest_pair
 pair-tells Q = lowest-tells (holds_at Q) 64
 
-pub filled : (q : List Note) → holds_any q ≡ true → q ≡ [] → ⊥
+pub filled : (q : List (Option Note)) → holds_any q ≡ true → q ≡ [] → ⊥
 filled q h e = grind arith
 
-emptied : (q : List Note) → holds_any q ≡ false → q ≡ []
-emptied [] h = refl
-emptied (m ∷ q) h = grind arith
+emptied : (q : List (Option Note)) → holds_any q ≡ false → q ≡ []
+emptied q h = grind arith
 
 pub none_below : (Q : Queues) → Tells (holds_at Q) 64 None → (a b : ℕ) → a < 8 → b < 8 → Q a b ≡ []
 none_below Q t a b la lb =

@@ -1,11 +1,11 @@
 -- What is promised is what is played.
-use Rattle.std.proofs.Common.{◌≡◌, ℕ, zero, suc, ◌+◌, ◌*◌, ◌/◌, ◌%◌, ◌<◌, ◌≤◌, Bool, false, cond, List, [], ◌∷◌, map, length, is_some, Some, None, Option, sym, refl, ap, ◌∙◌, subst, ap₂, inl, inr, arith, take_all}
+use Rattle.std.proofs.Common.{◌≡◌, ℕ, zero, suc, ◌+◌, ◌*◌, ◌/◌, ◌%◌, ◌<◌, ◌≤◌, Bool, false, cond, List, [], ◌∷◌, map, length, is_some, Some, None, Option, sym, refl, ap, ◌∙◌, subst, ap₂, inl, inr, arith, take_all, Ok}
 use Rattle.rules.specs.Rule.{Meaning}
 use Rattle.protocol.specs.declared.answer.Answer.{Answer}
 use Rattle.protocol.specs.declared.call.Call.{Call}
-use Rattle.protocol.specs.declared.call.Call.TheVariants.{Start, Request, Carry, Settle, WorkList, Tally}
-use Rattle.protocol.specs.declared.call.Outcome.{Outcome}
-use Rattle.protocol.specs.declared.call.Outcome.TheVariants.{Settled}
+use Rattle.protocol.specs.declared.call.Call.TheVariants.{Carry, Settle}
+use Rattle.protocol.specs.Outcomes.{Outcome, all_of}
+use Rattle.protocol.specs.declared.call.Reply.TheVariants.{Settled}
 use Rattle.protocol.specs.declared.refusal.Refusal.{Refusal}
 use Rattle.std.specs.List.{AllByRecursion}
 use Rattle.protocol.specs.Station.{Step, put_pair, step}
@@ -17,8 +17,7 @@ use Rattle.protocol.specs.Play.{transfer, transfer_at, chain_of, end_of, carry_t
 use Rattle.protocol.proofs.Kept.{along}
 
 none_of : (o : Option ℕ) → is_some o ≡ false → o ≡ None
-none_of None h = refl
-none_of (Some k) h = absurd (grind arith)
+none_of o h = grind arith
 
 module _ (R : Meaning) (limit : ℕ) where
   transfer-is : (S : Site) (x : Transfer) → Carries R limit S x → transfer R limit S x.from x.to (S.waits x.from x.to) ≡ Some x
@@ -61,8 +60,6 @@ module _ (R : Meaning) (limit : ℕ) where
   by_turn h t u e s = subst (Same t) (sym e) s
 
   does-is : (h : Status) (t : Turn) (c : Call) → Does R limit h t c → length t.transfers ≤ 1152 → Same t (doing R limit h c)
-  does-is h t Start d l = (ap plain d.0, d.2)
-  does-is h t (Request s e) d l = (ap plain d.0, d.2)
   does-is h t (Carry a b) d l = elim d [
     | inl n ↦ by_turn (carry_turn (Carry a b) h None) t (doing R limit h (Carry a b)) (ap (λ q. carry_turn (Carry a b) h (transfer R limit h.site a b q)) n.0) (ap plain n.1, n.3)
     | inr c ↦
@@ -73,13 +70,12 @@ module _ (R : Meaning) (limit : ℕ) where
   does-is h t (Settle n) d l =
       let r = chain-is 1152 h.site d.0 t.transfers d.1 d.2 l in
       let v : List Answer = answers_in t.transfers in
-      let shown : List Answer → Outcome = λ x. Settled x (length x) (length t.transfers) in
-      let k : plain (Settled d.4 d.5 (length t.transfers)) ≡ shown v = ap shown d.7 in
+      let shown : List Answer → Outcome = λ x. Ok (Settled (all_of x) (length t.transfers)) in
+      let k : plain (Ok (Settled d.4 (length t.transfers))) ≡ shown v = ap shown d.6 in
       let m : plain (shown v) ≡ shown v = ap shown (take_all (length v) v (omega arith)) in
       by_turn (settle_turn (Settle n) h t.transfers) t (doing R limit h (Settle n)) (ap (settle_turn (Settle n) h) r.0)
-      (ap plain d.6 ∙ k ∙ sym m, d.3 ∙ ap opened r.1)
-  does-is h t WorkList d l = (ap plain d.0, d.2)
-  does-is h t (Tally s) d l = (ap plain d.0, d.2)
+      (ap plain d.5 ∙ k ∙ sym m, d.3 ∙ ap opened r.1)
+  does-is h t _ d l = (ap plain d.0, d.2)
 
   obeys-is : (h : Status) (t : Turn) (x : Option Refusal) → Obeys R limit h t x → length t.transfers ≤ 1152 → Same t (play R limit h t.call x)
   obeys-is h t (Some n) d l = (ap plain d.0, d.2)

@@ -5,7 +5,7 @@ use Rattle.events.specs.declared.marks.Marks.{Marks}
 use Rattle.lines.specs.declared.note.Note.{Note}
 use Rattle.rules.specs.Rule.{Meaning, Lawful}
 use Rattle.protocol.specs.Sites.{Site}
-use Rattle.protocol.proofs.Locking.{requested, waits, given, Phase, idle, busy, Settling, clear, settling, Locking, has, waits_for, Invariant}
+use Rattle.protocol.proofs.Locking.{requested, waits, given, Phase, idle, busy, Settling, clear, Locking, has, waits_for, Invariant}
 use Rattle.protocol.proofs.LockingSettle.{waits_in}
 use Rattle.protocol.proofs.Shows.{others, grant_list, ask_list, settle_list, Shows}
 
@@ -16,22 +16,18 @@ OnlyWaits (busy e g known requested) = ⊥
 OnlyWaits (busy e g known waits) = Unit {0}
 OnlyWaits (busy e g known (given x)) = ⊥
 
-quiet-settle : (t : Settling) (l : List Note) → [] ≡ settle_list t ++ l → t ≡ clear
-quiet-settle clear l h = refl
-quiet-settle (settling e ok) l h = grind arith
+quiet-settle : (t : Settling) (l : List (Option Note)) → [] ≡ settle_list t ++ l → t ≡ clear
+quiet-settle t l h = grind arith
 
 quiet-phase : (R : Meaning) (p : Phase) → ((b : ℕ) → [] ≡ ask_list R p b) → ((a : ℕ) → [] ≡ grant_list R p a) → OnlyWaits p
-quiet-phase R idle h k = tt
-quiet-phase R (busy e g known waits) h k = tt
 quiet-phase R (busy e g known requested) h k = let z = h (R.owner g) in grind (arith, nat_tests)
 quiet-phase R (busy e g known (given x)) h k = let z = k (R.owner g) in grind (arith, nat_tests)
+quiet-phase R p h k = tt
 
 has-waits : (R : Meaning) (p : Phase) (f : ℕ) → OnlyWaits p → has R p f ≡ true → (g : ℕ) × (f < g) × (waits_for R p g ≡ true)
 unfolding has waits_for
-has-waits R idle f k h = grind arith
-has-waits R (busy e g known requested) f k h = absurd k
-has-waits R (busy e g known (given x)) f k h = absurd k
 has-waits R (busy e g known waits) f k h = (g, grind (arith, nat_tests), grind (arith, nat_tests))
+has-waits R p f k h = absurd (grind arith)
 
 some_of : (o : Option ℕ) → is_some o ≡ true → (t : ℕ) × (o ≡ Some t)
 some_of None h = grind arith
@@ -40,9 +36,8 @@ some_of (Some t) h = (t, refl)
 waits-idle : (R : Meaning) (p : Phase) → OnlyWaits p → ((f : ℕ) → waits_for R p f ≡ true → ⊥) → p ≡ idle
 unfolding waits_for
 waits-idle R idle k h = refl
-waits-idle R (busy e g known requested) k h = absurd k
-waits-idle R (busy e g known (given x)) k h = absurd k
 waits-idle R (busy e g known waits) k h = absurd (h g (grind (arith, nat_tests)))
+waits-idle R p k h = absurd k
 
 module _ (R : Meaning) (L : Lawful R) (A : Locking) (M : ℕ → Marks) (I : Invariant R A M) (cl : (a b : ℕ) → A.underway a b ≡ clear)
     (pk : (s : ℕ) → OnlyWaits (A.phase s)) where

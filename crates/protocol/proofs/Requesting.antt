@@ -5,13 +5,11 @@ use Rattle.events.specs.Marks.{unmarked}
 use Rattle.rules.specs.Rule.{Meaning, Lawful}
 use Rattle.rules.specs.Semantics.{lowest}
 use Rattle.rules.specs.Lowest.{Tells, lowest-tells}
-use Rattle.protocol.specs.declared.delivery.Delivery.TheVariants.{Nothing}
 use Rattle.protocol.specs.Station.{is_resting, begins}
 use Rattle.protocol.specs.Queues.{room_for}
 use Rattle.protocol.specs.Machine.{Machine, requests}
-use Rattle.protocol.specs.Turns.{is_stray}
-use Rattle.protocol.proofs.Whole.{Both, Out, moves, opening, act}
-use Rattle.protocol.proofs.Locking.{Phase, idle, busy, begun}
+use Rattle.protocol.proofs.Whole.{Both, Out, moves, lost, opening, act}
+use Rattle.protocol.proofs.Locking.{Phase, idle, begun}
 use Rattle.protocol.proofs.LockingOpen.{begun-inv}
 use Rattle.protocol.proofs.Counts.{open_of, begun-works}
 use Rattle.protocol.proofs.Shows.{request_of}
@@ -20,15 +18,13 @@ use Rattle.protocol.proofs.Carrying.{InStep, moves_next}
 
 module _ (R : Meaning) (L : Lawful R) (eight : R.stations ≤ 8) (limit : ℕ) (enough : 3 ≤ limit) (B : Both) (G : InStep R B) (s e : ℕ) where
   open-alike : (p : Phase) → is_resting (request_of R p) ≡ not (is_some (open_of p))
-  open-alike idle = refl
-  open-alike (busy e g known stage) = refl
+  open-alike p = grind arith
 
   pub alike : is_resting (B.site.station s).request ≡ not (is_some (B.table.asked s))
   alike = ap is_resting (G.shown.requests s) ∙ open-alike (G.locking.phase s) ∙ sym (ap (λ o. not (is_some o)) (G.asked s))
 
   pub idle-since : (p : Phase) → is_resting (request_of R p) ≡ true → p ≡ idle
-  idle-since idle h = refl
-  idle-since (busy e g known stage) h = grind arith
+  idle-since p h = grind arith
 
   abbrev pub With : Out → Machine → Both
   With o t = record {
@@ -36,7 +32,7 @@ module _ (R : Meaning) (L : Lawful R) (eight : R.stations ≤ 8) (limit : ℕ) (
     table = t;
     said = B.said;
     judged = B.judged;
-    strays = B.strays || is_stray o.delivery;
+    strays = B.strays || lost o.delivery;
     carries = B.carries;
     costs = B.costs;
   }
@@ -71,7 +67,7 @@ module _ (R : Meaning) (L : Lawful R) (eight : R.stations ≤ 8) (limit : ℕ) (
   request-go : (t : Bool) → (ltb e R.events && eqb (R.owner e) s && is_resting (B.site.station s).request) ≡ t →
       InStep R
       (With
-      (cond t (moves limit B.site B.site.waits s (begins R (B.site.station s) e (lowest (R.locks e) R.events))) (record { site = B.site; delivery = Nothing }))
+      (cond t (moves limit B.site B.site.waits s (begins R (B.site.station s) e (lowest (R.locks e) R.events))) (record { site = B.site; delivery = None }))
       (cond t opened B.table))
   request-go false h = record {
     locking = G.locking;

@@ -1,11 +1,11 @@
 -- A moment at which no message waits.
-use Rattle.std.proofs.Common.{◌≡◌, ℕ, ◌<◌, Bool, true, false, cond, ◌&&◌, None, refl, ap, subst, ap₂, arith}
+use Rattle.std.proofs.Common.{◌≡◌, ℕ, ◌<◌, Bool, true, false, cond, ◌&&◌, None, refl, ap, subst, ap₂, arith, Ok}
 use Rattle.std.proofs.lemmas.Bool.Decides.{nat_tests}
 use Rattle.events.specs.declared.marks.Marks.{Marks}
 use Rattle.events.specs.Marks.{unmarked}
 use Rattle.rules.specs.Answers.{accepted}
 use Rattle.rules.specs.Rule.{Meaning}
-use Rattle.protocol.specs.declared.call.Outcome.TheVariants.{Listed, Tallied}
+use Rattle.protocol.specs.declared.call.Reply.TheVariants.{Listed, Tallied}
 use Rattle.protocol.specs.Station.{owns}
 use Rattle.protocol.specs.Costs.{costs}
 use Rattle.protocol.specs.EventSets.{is_enabled, is_owed}
@@ -54,7 +54,7 @@ module _ (R : Meaning) (P : Proper R) (m : Moment) (G : Coherent R m) (still : S
   same-list =
       let M : ℕ → Marks = gathered R m.site in
       let N : ℕ → Marks = m.machine.marking in
-      ap₂ Listed
+      ap₂ (λ x y. Ok (Listed x y))
       (set_same (is_enabled R M) (is_enabled R N) R.events (λ e l. ap accepted (P.lawful.decides_by_locks e M N l (λ f k. same-marks f (P.lawful.locks_events e f l k)))))
       (set_same (is_owed M) (is_owed N) R.events (λ e l. ap (λ (x : Marks). x.pending && x.included) (same-marks e l)))
 
@@ -64,5 +64,5 @@ module _ (R : Meaning) (P : Proper R) (m : Moment) (G : Coherent R m) (still : S
 
   pub same-tally : (s : ℕ) → tallied R (m.site.station s).marks s ≡ tallied R m.machine.marking s
   same-tally s =
-      ap Tallied (set_same (λ e. owns R s e && is_owed (m.site.station s).marks e) (λ e. owns R s e && is_owed m.machine.marking e) R.events
+      ap (λ x. Ok (Tallied x)) (set_same (λ e. owns R s e && is_owed (m.site.station s).marks e) (λ e. owns R s e && is_owed m.machine.marking e) R.events
       (λ e _. tally-at s e (owns R s e) refl))

@@ -1,5 +1,5 @@
 -- A settle at a site is a settle of the model without queues.
-use Rattle.std.proofs.Common.{◌≡◌, ℕ, zero, suc, ◌<◌, Bool, true, false, cond, not, ◌&&◌, eqb, ltb, List, [], ◌∷◌, ◌++◌, Option, sym, refl, ap, ◌∙◌, arith}
+use Rattle.std.proofs.Common.{◌≡◌, ℕ, zero, suc, ◌<◌, Bool, true, false, cond, not, ◌&&◌, eqb, ltb, List, [], ◌∷◌, ◌++◌, Option, sym, refl, ap, ◌∙◌, arith, Some}
 use mathlib.Core.Path.{fun_ext}
 use Rattle.std.proofs.lemmas.Bool.Decides.{nat_tests}
 use Rattle.events.specs.declared.marks.Marks.{Marks}
@@ -10,7 +10,7 @@ use Rattle.rules.specs.Semantics.{lowest}
 use Rattle.protocol.specs.Station.{Station, put_pair, is, marked, next, frees, hands, settled}
 use Rattle.protocol.specs.Sites.{Site, moved}
 use Rattle.protocol.proofs.Lowest.{lowest_by}
-use Rattle.protocol.proofs.Locking.{requested, waits, given, Phase, idle, busy, settling, Locking, waits_for, Valid, next_for, hands_over, marks_after, granting, freed}
+use Rattle.protocol.proofs.Locking.{waits, Phase, busy, settling, Locking, waits_for, Valid, next_for, hands_over, marks_after, granting, freed}
 use Rattle.protocol.proofs.LockingSettle.{waits-granting}
 use Rattle.protocol.proofs.Posts.{post-all, grants, sent-hands}
 use Rattle.protocol.proofs.Shows.{only_grants, others, grants-app, others-app, request_of, grant_list, ask_list, settle_list, Shows}
@@ -30,15 +30,12 @@ grants-none p m zero h = refl
 grants-none p m (suc n) h = let i = grants-none p m n h in let j = h n in grind (arith, nat_tests)
 
 -- one passes at most
-grants-one : (p : ℕ → Bool) (m : ℕ → Marks) (n g : ℕ) → ((k : ℕ) → p k ≡ true → k ≡ g) → grants p m n ≡ cond (p g && ltb g n) (Grant g (m g) ∷ []) []
+grants-one : (p : ℕ → Bool) (m : ℕ → Marks) (n g : ℕ) → ((k : ℕ) → p k ≡ true → k ≡ g) → grants p m n ≡ cond (p g && ltb g n) (Some (Grant g (m g)) ∷ []) []
 grants-one p m zero g h = grind (arith, nat_tests)
 grants-one p m (suc n) g h = let i = grants-one p m n g h in let j = h n in grind (arith, nat_tests)
 
 request-granting : (R : Meaning) (p : ℕ → Bool) (m : ℕ → Marks) (q : Phase) → request_of R (granting p m q) ≡ request_of R q
-request-granting R p m idle = refl
-request-granting R p m (busy e g known requested) = refl
-request-granting R p m (busy e g known waits) = refl
-request-granting R p m (busy e g known (given x)) = refl
+request-granting R p m q = grind arith
 
 ask-granting : (R : Meaning) (p : ℕ → Bool) (m : ℕ → Marks) (q : Phase) (b : ℕ) → ask_list R (granting p m q) b ≡ ask_list R q b
 ask-granting R p m q b = grind (arith, nat_tests)
@@ -51,23 +48,19 @@ granted-one : (R : Meaning) → Lawful R → (b u y : ℕ) (q : Phase) → Valid
     ((f : ℕ) → p f ≡ true → R.owner f ≡ b) → ((f : ℕ) → R.owner f ≡ b → m' f ≡ m f) →
     cond (eqb u b) (grant_list R q u ++ grants p' m' R.events) (grant_list R q u) ≡ grant_list R (granting p m q) u
 unfolding waits_for
-granted-one R L b u y idle fi p p' m m' ps ws os ms =
-    let n = grants-none p' m' R.events (λ k. let w = ws k in let z = ps k in grind (arith, nat_tests)) in grind (arith, nat_tests)
-granted-one R L b u y (busy e g known requested) fi p p' m m' ps ws os ms =
-    let n = grants-none p' m' R.events (λ k. let w = ws k in let z = ps k in grind (arith, nat_tests)) in grind (arith, nat_tests)
-granted-one R L b u y (busy e g known (given x)) fi p p' m m' ps ws os ms =
-    let n = grants-none p' m' R.events (λ k. let w = ws k in let z = ps k in grind (arith, nat_tests)) in grind (arith, nat_tests)
 granted-one R L b u y (busy e g known waits) fi p p' m m' ps ws os ms =
     let n = grants-one p' m' R.events g (λ k h. let w = ws k in let z = ps k in grind (arith, nat_tests)) in
     let i = L.locks_events e g fi.0 fi.2 in let o = os g in let k = ms g in let z = ps g in grind (arith, nat_tests)
+granted-one R L b u y q fi p p' m m' ps ws os ms =
+    let n = grants-none p' m' R.events (λ k. let w = ws k in let z = ps k in grind (arith, nat_tests)) in grind (arith, nat_tests)
 
 module _ (R : Meaning) (L : Lawful R) (S : Site) (A : Locking) (r : Shows R S A) (valid : (s : ℕ) → Valid R s (A.phase s)) (a b e : ℕ)
-    (ok : Bool) (q : List Note) (hd : S.waits a b ≡ Settle e ok ∷ q) (at : A.underway a b ≡ settling e ok) (ev : e < R.events)
+    (ok : Bool) (q : List (Option Note)) (hd : S.waits a b ≡ Some (Settle e ok) ∷ q) (at : A.underway a b ≡ settling e ok) (ev : e < R.events)
     (em : others q ≡ ask_list R (A.phase a) b) where
   abbrev P : Station
   P = S.station b
 
-  abbrev Q : ℕ → ℕ → List Note
+  abbrev Q : ℕ → ℕ → List (Option Note)
   Q = put_pair S.waits a b q
 
   abbrev S' : Site
@@ -79,7 +72,7 @@ module _ (R : Meaning) (L : Lawful R) (S : Site) (A : Locking) (r : Shows R S A)
   abbrev hands_to : ℕ → ℕ → Bool
   hands_to w f = frees R P a b f && is (next P f) w
 
-  abbrev G : ℕ → List Note
+  abbrev G : ℕ → List (Option Note)
   G y = grants (hands_to y) (marked R P b e ok) R.events
 
   same_next : (f : ℕ) → R.owner f ≡ b → next P f ≡ next_for R A f
@@ -90,9 +83,6 @@ module _ (R : Meaning) (L : Lawful R) (S : Site) (A : Locking) (r : Shows R S A)
 
   marks : (f : ℕ) → (S'.station (R.owner f)).marks f ≡ A'.marks f
   marks f = let h = r.marks f in let l = L.acts_on_each e (S.station b).marks A.marks f ev in grind (arith, nat_tests)
-
-  holders : (f : ℕ) → (S'.station (R.owner f)).holder f ≡ A'.holder f
-  holders f = let h = same_next f in let i = r.holders f in grind (arith, nat_tests)
 
   waiters : (f w : ℕ) → (S'.station (R.owner f)).waiting f w ≡ waits_for R (A'.phase w) f
   waiters f w =
@@ -108,17 +98,17 @@ module _ (R : Meaning) (L : Lawful R) (S : Site) (A : Locking) (r : Shows R S A)
       ∙ r.requests w
       ∙ sym (request-granting R (hands_over R A a b w) (marks_after R A b e ok) (A.phase w))
 
-  popped-others : (u y : ℕ) (G : List Note) → others G ≡ [] →
+  popped-others : (u y : ℕ) (G : List (Option Note)) → others G ≡ [] →
       others (cond (eqb u b) (Q u y ++ G) (Q u y)) ≡ settle_list (A'.underway u y) ++ ask_list R (A.phase u) y
   popped-others u y G g = let h = r.others_of u y in let h2 = r.others_of a b in grind (arith, nat_tests, others-app)
 
-  popped-grants : (u y : ℕ) (G : List Note) → only_grants G ≡ G →
+  popped-grants : (u y : ℕ) (G : List (Option Note)) → only_grants G ≡ G →
       only_grants (cond (eqb u b) (Q u y ++ G) (Q u y)) ≡ cond (eqb u b) (grant_list R (A.phase y) u ++ G) (grant_list R (A.phase y) u)
   popped-grants u y G g = let h = r.grants_of u y in let h2 = r.grants_of a b in grind (arith, nat_tests, grants-app)
 
   queue-is : (u y : ℕ) → S'.waits u y ≡ cond (eqb u b) (Q u y ++ G y) (Q u y)
   queue-is u y = post-all Q b (hands (frees R P a b) (next P) (marked R P b e ok) R.events) u y
-      ∙ ap {B = List Note} (λ (l : List Note). cond (eqb u b) (Q u y ++ l) (Q u y))
+      ∙ ap {B = List (Option Note)} (λ (l : List (Option Note)). cond (eqb u b) (Q u y ++ l) (Q u y))
       (sent-hands (frees R P a b) (next P) (marked R P b e ok) R.events y)
 
   others_of : (u y : ℕ) → others (S'.waits u y) ≡ settle_list (A'.underway u y) ++ ask_list R (A'.phase u) y
@@ -137,4 +127,4 @@ module _ (R : Meaning) (L : Lawful R) (S : Site) (A : Locking) (r : Shows R S A)
       (λ f h. let i = marks f in grind (arith, nat_tests))
 
   pub freed-shows : Shows R (moved S (put_pair S.waits a b q) b (settled R (S.station b) a b e ok)) (freed R A a b e ok)
-  freed-shows = record { marks = marks; requests = requests; holders = holders; waiters = waiters; grants_of = grants_of; others_of = others_of }
+  freed-shows = record { marks = marks; requests = requests; holders = λ f. let h = same_next f in let i = r.holders f in grind (arith, nat_tests); waiters = waiters; grants_of = grants_of; others_of = others_of }

@@ -1,21 +1,20 @@
 -- Sums over the numbers below a limit.
 use Rattle.std.proofs.Common.{◌≡◌, ℕ, zero, suc, ◌+◌, ◌*◌, ◌<◌, ◌≤◌, Bool, refl, ap, inl, inr, mul-suc, arith}
 use Rattle.std.proofs.lemmas.Bool.{cases_eq}
-use Rattle.protocol.specs.Costs.{total, count}
+use Rattle.protocol.specs.Costs.{total, one, count}
+
+pub total-below : (p q : ℕ → ℕ) (n : ℕ) → ((k : ℕ) → k < n → p k ≡ q k) → total p n ≡ total q n
+total-below p q zero h = refl
+total-below p q (suc n) h = let i = total-below p q n (λ k l. h k (omega arith)) in let j = h n (omega arith) in omega arith
 
 pub total_ext : (p q : ℕ → ℕ) (n : ℕ) → ((k : ℕ) → q k ≡ p k) → total q n ≡ total p n
-total_ext p q zero h = refl
-total_ext p q (suc n) h = let i = total_ext p q n h in let j = h n in grind arith
-
-pub total-same : (p q : ℕ → ℕ) (n i : ℕ) → ((k : ℕ) → (k ≡ i → ⊥) → q k ≡ p k) → n ≤ i → total q n ≡ total p n
-total-same p q zero i h l = refl
-total-same p q (suc n) i h l = let r = total-same p q n i h (omega arith) in let j = h n (omega arith) in grind arith
+total_ext p q n h = total-below q p n (λ k l. h k)
 
 -- two sums that differ at one place
 pub total-at : (p q : ℕ → ℕ) (n i : ℕ) → ((k : ℕ) → (k ≡ i → ⊥) → q k ≡ p k) → i < n → total q n + p i ≡ total p n + q i
 total-at p q zero i h l = absurd (omega arith)
 total-at p q (suc n) i h l = elim (cases_eq n i) [
-  | inl e ↦ let r = total-same p q n i h (omega arith) in let a = ap p e in let b = ap q e in omega arith
+  | inl e ↦ let r = total-below q p n (λ k l. h k (omega arith)) in let a = ap p e in let b = ap q e in omega arith
   | inr e ↦ let r = total-at p q n i h (omega arith) in let j = h n e in omega arith
 ]
 
@@ -34,15 +33,10 @@ zero-total p (suc n) h k l = elim (cases_eq k n) [
   | inr e ↦ zero-total p n (omega arith) k (omega arith)
 ]
 
-pub total-below : (p q : ℕ → ℕ) (n : ℕ) → ((k : ℕ) → k < n → p k ≡ q k) → total p n ≡ total q n
-total-below p q zero h = refl
-total-below p q (suc n) h = let i = total-below p q n (λ k l. h k (omega arith)) in let j = h n (omega arith) in omega arith
-
 -- a sum of numbers that are at most c
 pub total-most : (p : ℕ → ℕ) (c n : ℕ) → ((k : ℕ) → p k ≤ c) → total p n ≤ c * n
 total-most p c zero h = omega arith
 total-most p c (suc n) h = let i = total-most p c n h in let j = h n in let s = mul-suc c n in omega arith
 
 pub count-few : (p : ℕ → Bool) (n : ℕ) → count p n ≤ n
-count-few p zero = omega arith
-count-few p (suc n) = let h = count-few p n in grind arith
+count-few p n = let t = total-most (λ k. one (p k)) 1 n (λ k. grind arith) in omega arith

@@ -1,10 +1,10 @@
 -- What is shown of each turn.
-use Rattle.std.proofs.Common.{◌≡◌, ℕ, ◌≤◌, true, List, [], length, Some, None, Option, sym, subst, arith}
+use Rattle.std.proofs.Common.{◌≡◌, ℕ, ◌≤◌, true, List, [], length, Some, None, Option, sym, refl, subst, arith, Ok, Err}
 use Rattle.rules.specs.Rule.{Meaning}
-use Rattle.protocol.specs.declared.answer.Answer.{Answer}
 use Rattle.protocol.specs.declared.call.Call.{Call}
-use Rattle.protocol.specs.declared.call.Outcome.{Outcome}
-use Rattle.protocol.specs.declared.call.Outcome.TheVariants.{Refused, Started, Opened, Nothing, Carried, Answered, Settled, Listed, Tallied}
+use Rattle.protocol.specs.Outcomes.{Outcome}
+use Rattle.protocol.specs.declared.answer.Answers.{Answers}
+use Rattle.protocol.specs.declared.call.Reply.TheVariants.{Settled}
 use Rattle.protocol.specs.declared.refusal.Refusal.TheVariants.{Stray}
 use Rattle.std.specs.List.{AllByRecursion}
 use Rattle.protocol.specs.Machine.{Machine, answers_of, Says}
@@ -25,50 +25,22 @@ Sound R h (Some m) = (h.is_open ≡ true) × (h.site ≡ m.site) × Coherent R m
 pub record Turned (R : Meaning) (o : Option Moment) (t : Turn) : Type 0 where
   pub sound : Sound R t.after (turned R o t)
   pub says : Says R (machine_of o) t.call t.outcome
-  pub never_stray : t.outcome ≡ Refused Stray → ⊥
+  pub never_stray : t.outcome ≡ Err Stray → ⊥
   pub few : length (answers_of t.outcome) ≤ 8
   pub short : length t.transfers ≤ 1152
-  pub ends : (table : List Answer) (k n : ℕ) → t.outcome ≡ Settled table k n → Still t.after.site
+  pub ends : (answers : Answers) (n : ℕ) → t.outcome ≡ Ok (Settled answers n) → Still t.after.site
   pub within : AllByRecursion (Coherent R) (during R o t.transfers)
   pub lists : ListsAt R o t
 
 -- ---- outcomes of calls that carry one message at most
 
 abbrev pub Brief : Outcome → Type 0
-Brief (Refused refusal) = refusal ≡ Stray → ⊥
-Brief Started = Unit {0}
-Brief Opened = Unit {0}
-Brief Nothing = Unit {0}
-Brief Carried = Unit {0}
-Brief (Answered a) = Unit {0}
-Brief (Settled table k messages) = ⊥
-Brief (Listed enabled owed) = Unit {0}
-Brief (Tallied owed) = Unit {0}
-
-brief-never : (r : Outcome) → Brief r → r ≡ Refused Stray → ⊥
-brief-never (Refused refusal) b e = b (grind arith)
-brief-never Started b e = grind arith
-brief-never Opened b e = grind arith
-brief-never Nothing b e = grind arith
-brief-never Carried b e = grind arith
-brief-never (Answered a) b e = grind arith
-brief-never (Settled table k messages) b e = b
-brief-never (Listed enabled owed) b e = grind arith
-brief-never (Tallied owed) b e = grind arith
+Brief (Err refusal) = refusal ≡ Stray → ⊥
+Brief (Ok (Settled answers messages)) = ⊥
+Brief (Ok reply) = Unit {0}
 
 brief-few : (r : Outcome) → Brief r → length (answers_of r) ≤ 8
-brief-few (Refused refusal) b = omega arith
-brief-few Started b = omega arith
-brief-few Opened b = omega arith
-brief-few Nothing b = omega arith
-brief-few Carried b = omega arith
-brief-few (Answered a) b = omega arith
-brief-few (Settled table k messages) b = absurd b
-brief-few (Listed enabled owed) b = omega arith
-brief-few (Tallied owed) b = omega arith
-
-brief-goes_on : (r : Outcome) → Brief r → (table : List Answer) (k n : ℕ) → r ≡ Settled table k n → ⊥
-brief-goes_on r b table k n e = subst Brief e b
+brief-few r b = grind arith
 
 no-moment : (R : Meaning) (o : Option Moment) → AllByRecursion (Coherent R) (during R o [])
 no-moment R None = tt
@@ -80,10 +52,10 @@ pub brief-turn : (R : Meaning) (o : Option Moment) (c : Call) (r : Outcome) (xs 
 brief-turn R o c r xs g b short sound says within lists = record {
   sound = sound;
   says = says;
-  never_stray = brief-never r b;
+  never_stray = λ e. subst Brief e b refl;
   few = brief-few r b;
   short = short;
-  ends = λ table k n e. absurd (brief-goes_on r b table k n e);
+  ends = λ answers n e. absurd (subst Brief e b);
   within = within;
   lists = lists;
 }

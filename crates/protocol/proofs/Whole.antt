@@ -1,11 +1,10 @@
 -- A site beside one table, over a list of acts; and what is claimed of every such run.
-use Rattle.std.proofs.Common.{◌≡◌, ℕ, zero, suc, ◌+◌, ◌/◌, ◌%◌, ◌<◌, ◌≤◌, Bool, true, false, cond, not, ◌&&◌, ◌||◌, eqb, ltb, List, [], ◌∷◌, length, is_some, Some, None, Option}
+use Rattle.std.proofs.Common.{◌≡◌, ℕ, zero, suc, ◌+◌, ◌/◌, ◌%◌, ◌<◌, ◌≤◌, Bool, true, false, cond, not, ◌&&◌, ◌||◌, eqb, ltb, List, [], ◌∷◌, length, is_some, Some, None, Option, Ok, Err}
 use Rattle.lines.specs.declared.note.Note.{Note}
 use Rattle.rules.specs.Rule.{Meaning, Lawful}
 use Rattle.rules.specs.Semantics.{lowest}
 use Rattle.protocol.specs.declared.answer.Answer.{Answer}
-use Rattle.protocol.specs.declared.delivery.Delivery.{Delivery}
-use Rattle.protocol.specs.declared.delivery.Delivery.TheVariants.{Nothing, Carried, Answered, Stray}
+use Rattle.protocol.specs.Outcomes.{Delivery, astray}
 use Rattle.protocol.specs.Station.{Request, resting, asking, Step, put_pair, is, is_resting, begins, step}
 use Rattle.protocol.specs.Queues.{Queues, room_for}
 use Rattle.protocol.specs.Sites.{Site, moved, fresh_site}
@@ -27,24 +26,25 @@ pub record Both : Type 0 where
 
 -- ---- the site
 
+-- there is no delivery where no message waited
 pub record Out : Type 0 where
   pub site : Site
-  pub delivery : Delivery
+  pub delivery : Option Delivery
 
 -- the posts of a step must all find room
 abbrev pub moves : ℕ → Site → Queues → ℕ → Step → Out
 moves limit S Q b t =
-    cond (room_for limit Q b t.posts) (record { site = moved S Q b t; delivery = t.delivery })
-    (record { site = record { station = S.station; waits = Q }; delivery = Stray })
+    cond (room_for limit Q b t.posts) (record { site = moved S Q b t; delivery = Some t.delivery })
+    (record { site = record { station = S.station; waits = Q }; delivery = Some astray })
 
-abbrev pub carry : Meaning → ℕ → Site → ℕ → ℕ → List Note → Out
-carry R limit S a b [] = record { site = S; delivery = Nothing }
+abbrev pub carry : Meaning → ℕ → Site → ℕ → ℕ → List (Option Note) → Out
+carry R limit S a b [] = record { site = S; delivery = None }
 carry R limit S a b (m ∷ q) = moves limit S (put_pair S.waits a b q) b (step R b (S.station b) a m)
 
 abbrev pub request : Meaning → ℕ → Site → ℕ → ℕ → Out
 request R limit S s e = cond (ltb e R.events && eqb (R.owner e) s && is_resting (S.station s).request)
     (moves limit S S.waits s (begins R (S.station s) e (lowest (R.locks e) R.events)))
-    (record { site = S; delivery = Nothing })
+    (record { site = S; delivery = None })
 
 -- ---- the table
 
@@ -64,10 +64,10 @@ judges R t e js = cond (expects R t e) (decides R t e ∷ js) js
 
 -- ---- both
 
-abbrev pub after : Meaning → Both → Site → Delivery → Both
-after R B S Nothing = record { site = S; table = B.table; said = B.said; judged = B.judged; strays = B.strays; carries = B.carries; costs = B.costs }
-after R B S Carried = record { site = S; table = B.table; said = B.said; judged = B.judged; strays = B.strays; carries = suc B.carries; costs = B.costs }
-after R B S (Answered a) = record {
+abbrev pub after : Meaning → Both → Site → Option Delivery → Both
+after R B S None = record { site = S; table = B.table; said = B.said; judged = B.judged; strays = B.strays; carries = B.carries; costs = B.costs }
+after R B S (Some (Ok None)) = record { site = S; table = B.table; said = B.said; judged = B.judged; strays = B.strays; carries = suc B.carries; costs = B.costs }
+after R B S (Some (Ok (Some a))) = record {
   site = S;
   table = table_answers R B.table a.event;
   said = a ∷ B.said;
@@ -76,7 +76,12 @@ after R B S (Answered a) = record {
   carries = suc B.carries;
   costs = B.costs + cost R a.event;
 }
-after R B S Stray = record { site = S; table = B.table; said = B.said; judged = B.judged; strays = true; carries = suc B.carries; costs = B.costs }
+after R B S (Some (Err stray)) = record { site = S; table = B.table; said = B.said; judged = B.judged; strays = true; carries = suc B.carries; costs = B.costs }
+
+-- a message was stray
+abbrev pub lost : Option Delivery → Bool
+lost None = false
+lost (Some delivery) = is_stray delivery
 
 pub data Act : Type 0 where
   opening : ℕ → ℕ → Act
@@ -110,7 +115,7 @@ act R limit B (opening s e) = record {
   table = table_opens R B.table s e;
   said = B.said;
   judged = B.judged;
-  strays = B.strays || is_stray (request R limit B.site s e).delivery;
+  strays = B.strays || lost (request R limit B.site s e).delivery;
   carries = B.carries;
   costs = B.costs;
 }

@@ -1,7 +1,7 @@
 -- The set of the events that pass a test, and what a marking makes of each event.
 use Rattle.std.specs.Prelude.{◌≡◌, ℕ, ◌^◌, Bool, cond, ◌&&◌, nat_lt}
 use Rattle.events.specs.Members.{member}
-use Rattle.events.specs.declared.event_set.EventSet.{EventSet}
+use Rattle.events.specs.Sets.{EventSet}
 use Rattle.events.specs.declared.marks.Marks.{Marks}
 use Rattle.rules.specs.Answers.{accepted}
 use Rattle.rules.specs.Rule.{Meaning}

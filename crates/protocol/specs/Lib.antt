@@ -1,4 +1,5 @@
 pub mod Refusals
+pub mod Outcomes
 pub mod Station
 pub mod Queues
 pub mod Sites

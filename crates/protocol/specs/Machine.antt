@@ -1,17 +1,17 @@
 -- One table for the whole case, as a reader of the answers can follow it: the whole marking and each station's open request.
 -- It is fed the calls and, for each carry and settle, the events answered in it.
-use Rattle.std.specs.Prelude.{◌≡◌, ℕ, Bool, cond, not, ◌&&◌, List, [], ◌∷◌, take, is_some, Some, None, Option, ◌==◌, nat_lt}
+use Rattle.std.specs.Prelude.{◌≡◌, ℕ, Bool, cond, not, ◌&&◌, List, [], ◌∷◌, is_some, Some, None, Option, Ok, Err, ◌==◌, nat_lt}
 use Rattle.events.specs.declared.marks.Marks.{Marks}
 use Rattle.rules.specs.Answers.{accepted}
 use Rattle.rules.specs.Rule.{Meaning}
 use Rattle.protocol.specs.declared.answer.Answer.{Answer}
 use Rattle.protocol.specs.declared.call.Call.{Call}
 use Rattle.protocol.specs.declared.call.Call.TheVariants.{Start, Request, Carry, Settle, WorkList, Tally}
-use Rattle.protocol.specs.declared.call.Outcome.{Outcome}
-use Rattle.protocol.specs.declared.call.Outcome.TheVariants.{Refused, Started, Opened, Nothing, Carried, Answered, Settled, Listed, Tallied}
+use Rattle.protocol.specs.declared.call.Reply.TheVariants.{Started, Opened, Answered, Settled, Listed, Tallied}
 use Rattle.protocol.specs.declared.refusal.Refusal.{Refusal}
 use Rattle.protocol.specs.declared.refusal.Refusal.TheVariants.{UnknownStation, UnknownEvent, OtherOwner, RequestOpen, WrongState}
 use Rattle.protocol.specs.EventSets.{is_enabled, is_owed, set_of}
+use Rattle.protocol.specs.Outcomes.{Outcome, entries}
 use Rattle.protocol.specs.Station.{owns, put}
 
 pub record Machine : Type 0 where
@@ -42,8 +42,8 @@ requests m s e (Some refusal) = m
 requests m s e None = record { marking = m.marking; asked = put m.asked s (Some e) }
 
 abbrev pub requested : Option Refusal → Outcome
-requested (Some refusal) = Refused refusal
-requested None = Opened
+requested (Some refusal) = Err refusal
+requested None = Ok Opened
 
 -- ---- answers
 
@@ -71,27 +71,21 @@ gave R m (a ∷ more) = gave R (answers R m a.event) more
 
 -- the answers in the outcome of a call
 abbrev pub answers_of : Outcome → List Answer
-answers_of (Refused refusal) = []
-answers_of Started = []
-answers_of Opened = []
-answers_of Nothing = []
-answers_of Carried = []
-answers_of (Answered a) = a ∷ []
-answers_of (Settled table k messages) = take k table
-answers_of (Listed enabled owed) = []
-answers_of (Tallied owed) = []
+answers_of (Ok (Answered a)) = a ∷ []
+answers_of (Ok (Settled answers messages)) = entries answers
+answers_of _ = []
 
 -- ---- a list of calls beside the machine; there is none before the start
 
 -- what the machine says of the outcome of a call
 abbrev pub Says : Meaning → Option Machine → Call → Outcome → Type 0
 Says R None Start o = Unit {0}
-Says R None (Request s e) o = o ≡ Refused WrongState
-Says R None (Carry a b) o = o ≡ Refused WrongState
-Says R None (Settle n) o = o ≡ Refused WrongState
-Says R None WorkList o = o ≡ Refused WrongState
-Says R None (Tally s) o = o ≡ Refused WrongState
-Says R (Some m) Start o = o ≡ Refused WrongState
+Says R None (Request s e) o = o ≡ Err WrongState
+Says R None (Carry a b) o = o ≡ Err WrongState
+Says R None (Settle n) o = o ≡ Err WrongState
+Says R None WorkList o = o ≡ Err WrongState
+Says R None (Tally s) o = o ≡ Err WrongState
+Says R (Some m) Start o = o ≡ Err WrongState
 Says R (Some m) (Request s e) o = o ≡ requested (refuses_request R m s e)
 Says R (Some m) (Carry a b) o = Gives R m (answers_of o)
 Says R (Some m) (Settle n) o = Gives R m (answers_of o)
@@ -99,15 +93,8 @@ Says R (Some m) WorkList o = answers_of o ≡ []
 Says R (Some m) (Tally s) o = answers_of o ≡ []
 
 abbrev pub starts : Meaning → Outcome → Option Machine
-starts R (Refused refusal) = None
-starts R Started = Some (new_machine R)
-starts R Opened = None
-starts R Nothing = None
-starts R Carried = None
-starts R (Answered a) = None
-starts R (Settled table k messages) = None
-starts R (Listed enabled owed) = None
-starts R (Tallied owed) = None
+starts R (Ok Started) = Some (new_machine R)
+starts R _ = None
 
 -- how the machine goes on: no refusal, work list or tally changes it
 abbrev pub hears : Meaning → Machine → Call → Outcome → Machine
@@ -138,8 +125,8 @@ Replays R m (c ∷ cs) (o ∷ os) = Says R m c o × Replays R (heard R m c o) cs
 
 -- the work list of a marking: its enabled and its owed events
 abbrev pub listed : Meaning → (ℕ → Marks) → Outcome
-listed R M = Listed (set_of (is_enabled R M) R.events) (set_of (is_owed M) R.events)
+listed R M = Ok (Listed (set_of (is_enabled R M) R.events) (set_of (is_owed M) R.events))
 
 -- the tally of the station s: its own owed events
 abbrev pub tallied : Meaning → (ℕ → Marks) → ℕ → Outcome
-tallied R M s = Tallied (set_of (λ e. owns R s e && is_owed M e) R.events)
+tallied R M s = Ok (Tallied (set_of (λ e. owns R s e && is_owed M e) R.events))

@@ -1,13 +1,13 @@
 -- A site played: the outcomes of a list of calls, as a function of them.
-use Rattle.std.specs.Prelude.{ℕ, zero, suc, ◌/◌, ◌%◌, false, cond, List, [], ◌∷◌, length, take, Some, None, Option}
+use Rattle.std.specs.Prelude.{ℕ, zero, suc, ◌/◌, ◌%◌, false, cond, List, [], ◌∷◌, length, Some, None, Option, Ok, Err}
 use Rattle.lines.specs.declared.note.Note.{Note}
 use Rattle.rules.specs.Rule.{Meaning}
 use Rattle.protocol.specs.declared.call.Call.{Call}
 use Rattle.protocol.specs.declared.call.Call.TheVariants.{Start, Request, Carry, Settle, WorkList, Tally}
-use Rattle.protocol.specs.declared.call.Outcome.{Outcome}
-use Rattle.protocol.specs.declared.call.Outcome.TheVariants.{Refused, Started, Opened, Nothing, Carried, Answered, Settled, Listed, Tallied}
+use Rattle.protocol.specs.declared.call.Reply.TheVariants.{Started, Opened, Nothing, Settled}
 use Rattle.protocol.specs.declared.refusal.Refusal.{Refusal}
 use Rattle.protocol.specs.Machine.{listed, tallied}
+use Rattle.protocol.specs.Outcomes.{Outcome, all_of, entries}
 use Rattle.protocol.specs.Queues.{Queues}
 use Rattle.protocol.specs.Sites.{Site, fresh_site, moved}
 use Rattle.protocol.specs.Station.{Step, fresh, put_pair, step}
@@ -16,7 +16,7 @@ use Rattle.protocol.specs.Turns.{Status, Transfer, Turn, answer_of, answers_in, 
 abbrev pub transfer_of : ℕ → Site → Queues → ℕ → ℕ → Step → Option Transfer
 transfer_of limit S Q a b t = cond (goes limit Q b t) (Some (record { from = a; to = b; answer = answer_of t.delivery; site = moved S Q b t })) None
 
-abbrev pub transfer : Meaning → ℕ → Site → ℕ → ℕ → List Note → Option Transfer
+abbrev pub transfer : Meaning → ℕ → Site → ℕ → ℕ → List (Option Note) → Option Transfer
 transfer R limit S a b [] = None
 transfer R limit S a b (n ∷ ns) = transfer_of limit S (put_pair S.waits a b ns) a b (step R b (S.station b) a n)
 
@@ -38,22 +38,22 @@ abbrev pub turn_of : Call → Outcome → List Transfer → Status → Turn
 turn_of c o xs g = record { call = c; outcome = o; transfers = xs; after = g }
 
 abbrev pub carry_turn : Call → Status → Option Transfer → Turn
-carry_turn c h None = turn_of c Nothing [] h
+carry_turn c h None = turn_of c (Ok Nothing) [] h
 carry_turn c h (Some x) = turn_of c (carry_outcome x.answer) (x ∷ []) (opened x.site)
 
 abbrev pub settle_turn : Call → Status → List Transfer → Turn
-settle_turn c h xs = turn_of c (Settled (answers_in xs) (length (answers_in xs)) (length xs)) xs (opened (end_of h.site xs))
+settle_turn c h xs = turn_of c (Ok (Settled (all_of (answers_in xs)) (length xs))) xs (opened (end_of h.site xs))
 
 abbrev pub doing : Meaning → ℕ → Status → Call → Turn
-doing R limit h Start = turn_of Start Started [] (opened (record { station = fresh R; waits = h.site.waits }))
-doing R limit h (Request s e) = turn_of (Request s e) Opened [] (opened (moved h.site h.site.waits s (asking R h.site s e)))
+doing R limit h Start = turn_of Start (Ok Started) [] (opened (record { station = fresh R; waits = h.site.waits }))
+doing R limit h (Request s e) = turn_of (Request s e) (Ok Opened) [] (opened (moved h.site h.site.waits s (asking R h.site s e)))
 doing R limit h (Carry a b) = carry_turn (Carry a b) h (transfer R limit h.site a b (h.site.waits a b))
 doing R limit h (Settle n) = settle_turn (Settle n) h (chain_of R limit 1152 (transfer_at R limit h.site (lowest_pair h.site.waits)))
 doing R limit h WorkList = turn_of WorkList (listed R (gathered R h.site)) [] h
 doing R limit h (Tally s) = turn_of (Tally s) (tallied R (h.site.station s).marks s) [] h
 
 abbrev pub play : Meaning → ℕ → Status → Call → Option Refusal → Turn
-play R limit h c (Some refused) = turn_of c (Refused refused) [] h
+play R limit h c (Some refused) = turn_of c (Err refused) [] h
 play R limit h c None = doing R limit h c
 
 abbrev pub plays : Meaning → ℕ → Status → List Call → List Outcome
@@ -66,12 +66,5 @@ new_site R = record { is_open = false; site = fresh_site R }
 
 -- an outcome without the entries of the table that hold no answer
 abbrev pub plain : Outcome → Outcome
-plain (Refused refused) = Refused refused
-plain Started = Started
-plain Opened = Opened
-plain Nothing = Nothing
-plain Carried = Carried
-plain (Answered a) = Answered a
-plain (Settled table k messages) = Settled (take k table) (length (take k table)) messages
-plain (Listed enabled owed) = Listed enabled owed
-plain (Tallied owed) = Tallied owed
+plain (Ok (Settled answers messages)) = Ok (Settled (all_of (entries answers)) messages)
+plain outcome = outcome

@@ -1,6 +1,6 @@
 -- What is promised of every list of calls of a site, refused ones included: nobody who reads the answers can tell it
 -- from one table.
-use Rattle.std.specs.Prelude.{◌≡◌, ℕ, suc, ◌+◌, ◌<◌, ◌≤◌, false, cond, List, [], ◌∷◌, ◌++◌, map, length, Some, None, Option, ◌≢◌}
+use Rattle.std.specs.Prelude.{◌≡◌, ℕ, suc, ◌+◌, ◌<◌, ◌≤◌, false, cond, List, [], ◌∷◌, ◌++◌, map, length, Some, None, Option, Ok, Err, ◌≢◌}
 use Rattle.std.specs.List.{AllByRecursion}
 use Rattle.events.specs.Marks.{unmarked}
 use Rattle.lines.specs.Lists.{inside}
@@ -8,11 +8,12 @@ use Rattle.rules.specs.Rule.{Lawful, Meaning}
 use Rattle.protocol.specs.declared.answer.Answer.{Answer}
 use Rattle.protocol.specs.declared.call.Call.{Call}
 use Rattle.protocol.specs.declared.call.Call.TheVariants.{Start, Request, Carry, Settle, WorkList, Tally}
-use Rattle.protocol.specs.declared.call.Outcome.{Outcome}
-use Rattle.protocol.specs.declared.call.Outcome.TheVariants.{Refused, Settled}
+use Rattle.protocol.specs.declared.answer.Answers.{Answers}
+use Rattle.protocol.specs.declared.call.Reply.TheVariants.{Settled}
 use Rattle.protocol.specs.declared.refusal.Refusal.TheVariants.{Stray}
 use Rattle.protocol.specs.Costs.{costs}
 use Rattle.protocol.specs.Machine.{Machine, Replays, answers_of, gave, heard, listed, tallied}
+use Rattle.protocol.specs.Outcomes.{Outcome}
 use Rattle.protocol.specs.Play.{plain, plays}
 use Rattle.protocol.specs.Served.{Served}
 use Rattle.protocol.specs.Sites.{Site}
@@ -105,10 +106,10 @@ pub record SameAnswers (R : Meaning) (calls : List Call) (outcomes : List Outcom
   -- the machine, fed the calls and the answered events, gives the same answers and refuses the same requests and starts
   pub replays : Replays R None calls outcomes
   -- 14 never comes back
-  pub never_stray : AllByRecursion (λ o. o ≢ Refused Stray) outcomes
+  pub never_stray : AllByRecursion (λ o. o ≢ Err Stray) outcomes
   -- a settle gives at most eight answers, and leaves nothing waiting
   pub few : AllByRecursion (λ t. length (answers_of t.outcome) ≤ 8) turns
-  pub ends : AllByRecursion (λ t. (table : List Answer) (k n : ℕ) → t.outcome ≡ Settled table k n → Still t.after.site) turns
+  pub ends : AllByRecursion (λ t. (answers : Answers) (n : ℕ) → t.outcome ≡ Ok (Settled answers n) → Still t.after.site) turns
 
 -- (b) at every moment at which no message waits, within a settle too
 pub record RestsAgree (R : Meaning) (turns : List Turn) : Type 0 where

@@ -1,14 +1,14 @@
 -- The notes that wait between stations.
-use Rattle.std.specs.Prelude.{ℕ, Bool, true, ◌&&◌, List, [], ◌∷◌, ◌++◌, map, length, nat_lt}
+use Rattle.std.specs.Prelude.{ℕ, Bool, true, ◌&&◌, List, [], ◌∷◌, ◌++◌, map, length, Some, Option, nat_lt}
 use Rattle.lines.specs.Lists.{Lists}
 use Rattle.lines.specs.Messages.{reads}
 use Rattle.lines.specs.declared.note.Note.{Note}
 use Rattle.protocol.specs.Station.{put_pair}
 use Rattle.protocol.specs.declared.delivery.Post.{Post}
 
--- the notes that wait from the first station to the second, oldest first
+-- the notes that wait from the first station to the second, oldest first; a message that says nothing is no note
 abbrev pub Queues : Type 0
-Queues = ℕ → ℕ → List Note
+Queues = ℕ → ℕ → List (Option Note)
 
 -- what the messages of a line say
 abbrev pub queues : Lists → Queues
@@ -16,7 +16,7 @@ queues W a b = map reads (W a b)
 
 -- a post of the station b
 abbrev pub post : Queues → ℕ → Post → Queues
-post Q b p = put_pair Q b p.to (Q b p.to ++ (p.note ∷ []))
+post Q b p = put_pair Q b p.to (Q b p.to ++ (Some p.note ∷ []))
 
 -- its posts, in order
 unfoldable pub post_all : Queues → ℕ → List Post → Queues

@@ -1,20 +1,19 @@
 -- The contract of a single call: it does its turn, or it meets what never happens in a site that was started.
-use Rattle.std.specs.Prelude.{◌≡◌, ℕ, ◌+◌, ◌*◌, ◌<◌, false, ◌⊎◌, List, ◌∷◌, length, Some, None}
+use Rattle.std.specs.Prelude.{◌≡◌, ℕ, ◌+◌, ◌*◌, ◌<◌, false, ◌⊎◌, List, ◌∷◌, length, Some, None, Option, Err}
 use Rattle.lines.specs.declared.note.Note.{Note}
 use Rattle.rules.specs.Rule.{Meaning}
 use Rattle.protocol.specs.declared.call.Call.{Call}
 use Rattle.protocol.specs.declared.call.Call.TheVariants.{Start, Request, Carry, Settle, WorkList, Tally}
-use Rattle.protocol.specs.declared.call.Outcome.{Outcome}
-use Rattle.protocol.specs.declared.call.Outcome.TheVariants.{Refused}
 use Rattle.protocol.specs.declared.refusal.Refusal.TheVariants.{Stray}
+use Rattle.protocol.specs.Outcomes.{Outcome}
 use Rattle.protocol.specs.Sites.{Site}
 use Rattle.protocol.specs.Station.{put_pair, step}
 use Rattle.protocol.specs.Turns.{Chain, Serves, Status, Transfer, answers_in, asking, goes, lowest_pair, opened, refusal}
 
 -- the oldest message of a pair is stray, or its step meets a full pair: it is removed, and nothing else changes
 pub record Stuck (R : Meaning) (limit : ℕ) (S : Site) (a b : ℕ) (T : Site) : Type 0 where
-  pub oldest : Note
-  pub others : List Note
+  pub oldest : Option Note
+  pub others : List (Option Note)
   pub waits : S.waits a b ≡ oldest ∷ others
   pub unfit : goes limit (put_pair S.waits a b others) b (step R b (S.station b) a oldest) ≡ false
   pub left : T ≡ record { station = S.station; waits = put_pair S.waits a b others }
@@ -42,4 +41,4 @@ Fails R limit h (Tally s) g = ⊥
 abbrev pub Served : Meaning → ℕ → Status → Call → Outcome → Status → Type 0
 Served R limit h c o g =
     ((xs : List Transfer) × Serves R limit h (record { call = c; outcome = o; transfers = xs; after = g }))
-    ⊎ (Fails R limit h c g × (o ≡ Refused Stray))
+    ⊎ (Fails R limit h c g × (o ≡ Err Stray))

@@ -1,5 +1,5 @@
 -- A site: its stations, and the notes that wait between them.
-use Rattle.std.specs.Prelude.{ℕ, List, []}
+use Rattle.std.specs.Prelude.{ℕ, List, [], Option}
 use Rattle.lines.specs.declared.note.Note.{Note}
 use Rattle.rules.specs.Rule.{Meaning}
 use Rattle.protocol.specs.Station.{Station, Step, fresh, put}
@@ -7,7 +7,7 @@ use Rattle.protocol.specs.Queues.{Queues, post_all}
 
 pub record Site : Type 0 where
   pub station : ℕ → Station
-  pub waits : ℕ → ℕ → List Note
+  pub waits : ℕ → ℕ → List (Option Note)
 
 -- the station b as its step leaves it, and its posts put into the queues
 abbrev pub moved : Site → Queues → ℕ → Step → Site

@@ -1,15 +1,14 @@
 -- A station: its marks, its request and its lock records; and what it does at a note.
-use Rattle.std.specs.Prelude.{ℕ, zero, suc, Bool, true, false, cond, not, ◌&&◌, ◌||◌, List, [], ◌∷◌, ◌++◌, is_some, Some, None, Option, ◌==◌, nat_lt}
+use Rattle.std.specs.Prelude.{ℕ, zero, suc, Bool, true, false, cond, not, ◌&&◌, ◌||◌, List, [], ◌∷◌, ◌++◌, is_some, Some, None, Option, Ok, ◌==◌, nat_lt}
 use Rattle.events.specs.declared.marks.Marks.{Marks}
 use Rattle.events.specs.Marks.{unmarked}
 use Rattle.lines.specs.declared.note.Note.{Note}
-use Rattle.lines.specs.declared.note.Note.TheVariants.{Ask, Grant, Settle, Unreadable}
+use Rattle.lines.specs.declared.note.Note.TheVariants.{Ask, Grant, Settle}
 use Rattle.rules.specs.Answers.{accepted}
 use Rattle.rules.specs.Rule.{Meaning}
 use Rattle.rules.specs.Semantics.{lowest}
-use Rattle.protocol.specs.declared.delivery.Delivery.{Delivery}
-use Rattle.protocol.specs.declared.delivery.Delivery.TheVariants.{Carried, Answered, Stray}
 use Rattle.protocol.specs.declared.delivery.Post.{Post}
+use Rattle.protocol.specs.Outcomes.{Delivery, astray}
 
 pub data Request : Type 0 where
   resting : Request
@@ -66,12 +65,12 @@ asked S q = record { marks = S.marks; request = q; holder = S.holder; waiting = 
 
 -- a request of e, whose lowest lock is g
 abbrev pub begins : Meaning → Station → ℕ → Option ℕ → Step
-begins R S e None = record { station = S; posts = []; delivery = Stray }
+begins R S e None = record { station = S; posts = []; delivery = astray }
 begins R S e (Some g) =
     record {
       station = asked S (asking e (λ _. false) (λ _. unmarked));
       posts = record { to = R.owner g; note = Ask g } ∷ [];
-      delivery = Carried;
+      delivery = Ok None;
     }
 
 -- ---- an ask
@@ -82,13 +81,13 @@ asks S a f None =
     record {
       station = record { marks = S.marks; request = S.request; holder = put S.holder f (Some a); waiting = S.waiting };
       posts = record { to = a; note = Grant f (S.marks f) } ∷ [];
-      delivery = Carried;
+      delivery = Ok None;
     }
 asks S a f (Some t) =
     record {
       station = record { marks = S.marks; request = S.request; holder = S.holder; waiting = put_pair S.waiting f a true };
       posts = [];
-      delivery = Carried;
+      delivery = Ok None;
     }
 
 -- ---- a grant
@@ -101,19 +100,19 @@ to_each p note (suc n) = to_each p note n ++ cond (p n) (record { to = n; note =
 -- after a grant is noted: the next lock is asked for; or all are had, and the station answers, rests and posts its settles
 abbrev pub goes_on : Meaning → Station → ℕ → (ℕ → Bool) → (ℕ → Marks) → Option ℕ → Step
 goes_on R S e had seen (Some g) =
-    record { station = asked S (asking e had seen); posts = record { to = R.owner g; note = Ask g } ∷ []; delivery = Carried }
+    record { station = asked S (asking e had seen); posts = record { to = R.owner g; note = Ask g } ∷ []; delivery = Ok None }
 goes_on R S e had seen None =
     record {
       station = asked S resting;
       posts = to_each (concerned R e) (Settle e (accepted (R.decides e seen))) R.stations;
-      delivery = Answered (record { event = e; decision = R.decides e seen });
+      delivery = Ok (Some (record { event = e; decision = R.decides e seen }));
     }
 
 abbrev pub had_more : (ℕ → Bool) → ℕ → ℕ → Bool
 had_more had f k = had k || k == f
 
 abbrev pub strays : Station → Step
-strays S = record { station = S; posts = []; delivery = Stray }
+strays S = record { station = S; posts = []; delivery = astray }
 
 -- a grant of f with the marks x from the station a fits from the owner of f, for the lowest missing lock
 abbrev pub granted : Meaning → Station → ℕ → ℕ → Marks → Request → Step
@@ -159,16 +158,16 @@ settled R S a b e ok =
         waiting = λ f w. cond (frees R S a b f && is (next S f) w) false (S.waiting f w);
       };
       posts = hands (frees R S a b) (next S) (marked R S b e ok) R.events;
-      delivery = Carried;
+      delivery = Ok None;
     }
 
 -- ---- the step of the station b at a note from the station a: an ask fits for an own event, a settle from the event's
 -- owner, and nothing else but a fitting grant does
-abbrev pub step : Meaning → ℕ → Station → ℕ → Note → Step
-step R b S a (Ask f) = cond (owns R b f) (asks S a f (S.holder f)) (strays S)
-step R b S a (Grant f x) = granted R S a f x S.request
-step R b S a (Settle e ok) = cond (owns R a e) (settled R S a b e ok) (strays S)
-step R b S a Unreadable = strays S
+abbrev pub step : Meaning → ℕ → Station → ℕ → Option Note → Step
+step R b S a (Some (Ask f)) = cond (owns R b f) (asks S a f (S.holder f)) (strays S)
+step R b S a (Some (Grant f x)) = granted R S a f x S.request
+step R b S a (Some (Settle e ok)) = cond (owns R a e) (settled R S a b e ok) (strays S)
+step R b S a None = strays S
 
 -- the station s at the start: the start marks of its own events, no request, every lock free
 abbrev pub fresh : Meaning → ℕ → Station

@@ -1,5 +1,5 @@
 -- What each call of a site does: one call is one turn, and a settle is the messages that it carries.
-use Rattle.std.specs.Prelude.{◌≡◌, ℕ, ◌+◌, ◌*◌, ◌/◌, ◌%◌, ◌<◌, Bool, true, false, not, ◌&&◌, ◌⊎◌, List, [], ◌∷◌, ◌++◌, length, take, is_some, Some, None, Option, ◌==◌, nat_lt}
+use Rattle.std.specs.Prelude.{◌≡◌, ℕ, ◌+◌, ◌*◌, ◌/◌, ◌%◌, ◌<◌, Bool, true, false, not, ◌&&◌, ◌⊎◌, List, [], ◌∷◌, ◌++◌, length, is_some, Some, None, Option, Ok, Err, ◌==◌, nat_lt}
 use Rattle.events.specs.declared.marks.Marks.{Marks}
 use Rattle.lines.specs.declared.note.Note.{Note}
 use Rattle.rules.specs.Rule.{Meaning}
@@ -7,13 +7,12 @@ use Rattle.rules.specs.Semantics.{lowest}
 use Rattle.protocol.specs.declared.answer.Answer.{Answer}
 use Rattle.protocol.specs.declared.call.Call.{Call}
 use Rattle.protocol.specs.declared.call.Call.TheVariants.{Start, Request, Carry, Settle, WorkList, Tally}
-use Rattle.protocol.specs.declared.call.Outcome.{Outcome}
-use Rattle.protocol.specs.declared.call.Outcome.TheVariants.{Refused, Started, Opened, Nothing, Carried, Answered, Settled}
-use Rattle.protocol.specs.declared.delivery.Delivery.{Delivery}
-use Rattle.protocol.specs.declared.delivery.Delivery.TheVariants.{Nothing as NothingWaits, Carried as Delivered, Answered as Answering, Stray as Astray}
+use Rattle.protocol.specs.declared.answer.Answers.{Answers}
+use Rattle.protocol.specs.declared.call.Reply.TheVariants.{Started, Opened, Nothing, Carried, Answered, Settled}
 use Rattle.protocol.specs.declared.refusal.Refusal.{Refusal}
 use Rattle.protocol.specs.declared.refusal.Refusal.TheVariants.{UnknownStation, UnknownEvent, OtherOwner, RequestOpen, MessageWaits, WrongState, ShortTable}
 use Rattle.protocol.specs.Machine.{listed, tallied, unless}
+use Rattle.protocol.specs.Outcomes.{Delivery, Outcome, entries}
 use Rattle.protocol.specs.Queues.{Queues, room_for}
 use Rattle.protocol.specs.Sites.{Site, moved}
 use Rattle.protocol.specs.Station.{Step, begins, fresh, is_resting, put_pair, step}
@@ -42,7 +41,7 @@ opened S = record { is_open = true; site = S }
 
 -- ---- what waits
 
-abbrev pub holds_any : List Note → Bool
+abbrev pub holds_any : List (Option Note) → Bool
 holds_any [] = false
 holds_any (n ∷ ns) = true
 
@@ -72,25 +71,21 @@ refusal R h (Tally s) = unless h.is_open WrongState (unless (nat_lt s R.stations
 -- ---- one message carried
 
 abbrev pub is_stray : Delivery → Bool
-is_stray NothingWaits = false
-is_stray Delivered = false
-is_stray (Answering a) = false
-is_stray Astray = true
+is_stray (Ok answer) = false
+is_stray (Err stray) = true
 
 -- the step is no stray one, and its posts find room
 abbrev pub goes : ℕ → Queues → ℕ → Step → Bool
 goes limit Q b t = not (is_stray t.delivery) && room_for limit Q b t.posts
 
 abbrev pub answer_of : Delivery → Option Answer
-answer_of NothingWaits = None
-answer_of Delivered = None
-answer_of (Answering a) = Some a
-answer_of Astray = None
+answer_of (Ok answer) = answer
+answer_of (Err stray) = None
 
 -- from S the oldest message of a pair is taken, and the receiving station does its step
 pub record Carries (R : Meaning) (limit : ℕ) (S : Site) (x : Transfer) : Type 0 where
-  pub oldest : Note
-  pub others : List Note
+  pub oldest : Option Note
+  pub others : List (Option Note)
   pub waits : S.waits x.from x.to ≡ oldest ∷ others
   pub fits : goes limit (put_pair S.waits x.from x.to others) x.to (step R x.to (S.station x.to) x.from oldest) ≡ true
   pub moves : x.site ≡ moved S (put_pair S.waits x.from x.to others) x.to (step R x.to (S.station x.to) x.from oldest)
@@ -111,8 +106,8 @@ answers_in [] = []
 answers_in (x ∷ xs) = one_answer x.answer ++ answers_in xs
 
 abbrev pub carry_outcome : Option Answer → Outcome
-carry_outcome None = Carried
-carry_outcome (Some a) = Answered a
+carry_outcome None = Ok Carried
+carry_outcome (Some a) = Ok (Answered a)
 
 -- ---- one call
 
@@ -127,22 +122,22 @@ asking R S s e = begins R (S.station s) e (lowest (R.locks e) R.events)
 -- what a call that is not refused does
 abbrev pub Does : Meaning → ℕ → Status → Turn → Call → Type 0
 Does R limit h t Start =
-    (t.outcome ≡ Started) × (t.transfers ≡ []) × (t.after ≡ opened (record { station = fresh R; waits = h.site.waits }))
+    (t.outcome ≡ Ok Started) × (t.transfers ≡ []) × (t.after ≡ opened (record { station = fresh R; waits = h.site.waits }))
 Does R limit h t (Request s e) =
-    (t.outcome ≡ Opened) × (t.transfers ≡ []) × (t.after ≡ opened (moved h.site h.site.waits s (asking R h.site s e)))
+    (t.outcome ≡ Ok Opened) × (t.transfers ≡ []) × (t.after ≡ opened (moved h.site h.site.waits s (asking R h.site s e)))
 Does R limit h t (Carry a b) =
-    ((h.site.waits a b ≡ []) × (t.outcome ≡ Nothing) × (t.transfers ≡ []) × (t.after ≡ h))
+    ((h.site.waits a b ≡ []) × (t.outcome ≡ Ok Nothing) × (t.transfers ≡ []) × (t.after ≡ h))
     ⊎ ((o : Option Answer) × (S : Site) × Carries R limit h.site (record { from = a; to = b; answer = o; site = S })
     × (t.outcome ≡ carry_outcome o) × (t.transfers ≡ record { from = a; to = b; answer = o; site = S } ∷ []) × (t.after ≡ opened S))
 Does R limit h t (Settle n) =
     (S : Site) × Chain R limit h.site t.transfers S × (waiting S ≡ false) × (t.after ≡ opened S)
-    × (table : List Answer) × (k : ℕ) × (t.outcome ≡ Settled table k (length t.transfers)) × (take k table ≡ answers_in t.transfers)
+    × (answers : Answers) × (t.outcome ≡ Ok (Settled answers (length t.transfers))) × (entries answers ≡ answers_in t.transfers)
 Does R limit h t WorkList = (t.outcome ≡ listed R (gathered R h.site)) × (t.transfers ≡ []) × (t.after ≡ h)
 Does R limit h t (Tally s) = (t.outcome ≡ tallied R (h.site.station s).marks s) × (t.transfers ≡ []) × (t.after ≡ h)
 
 -- a refused call changes nothing
 abbrev pub Obeys : Meaning → ℕ → Status → Turn → Option Refusal → Type 0
-Obeys R limit h t (Some refusal) = (t.outcome ≡ Refused refusal) × (t.transfers ≡ []) × (t.after ≡ h)
+Obeys R limit h t (Some refusal) = (t.outcome ≡ Err refusal) × (t.transfers ≡ []) × (t.after ≡ h)
 Obeys R limit h t None = Does R limit h t t.call
 
 -- the turn is what its call does at h

@@ -1,4 +1,4 @@
-use crate::answer::Answer;
+use crate::answer::{Answer, Answers};
 use crate::refusal::Refusal;
 use events::EventSet;
 
@@ -19,10 +19,9 @@ pub enum Call {
     Tally { station: u8 },
 }
 
-/// What a call of a site came to.
+/// What a call gives that is not refused.
 #[derive(Clone, Copy)]
-pub enum Outcome {
-    Refused(Refusal),
+pub enum Reply {
     Started,
     /// The request is open.
     Opened,
@@ -30,17 +29,11 @@ pub enum Outcome {
     Nothing,
     Carried,
     Answered(Answer),
-    /// The first `answers` entries of the table were given, and `messages` were carried.
-    Settled {
-        table: [Answer; 8],
-        answers: usize,
-        messages: usize,
-    },
-    Listed {
-        enabled: EventSet,
-        owed: EventSet,
-    },
-    Tallied {
-        owed: EventSet,
-    },
+    /// The answers were given, and so many messages were carried.
+    Settled { answers: Answers, messages: usize },
+    Listed { enabled: EventSet, owed: EventSet },
+    Tallied { owed: EventSet },
 }
+
+/// What a call of a site came to.
+pub type Outcome = Result<Reply, Refusal>;

@@ -1,4 +1,3 @@
-use crate::answer::Answer;
 use lines::note::Note;
 
 /// A note and the station that it goes to.
@@ -8,15 +7,6 @@ pub struct Post {
     pub note: Note,
 }
 
-/// What came of carrying from one station to another.
+/// A message that fits nothing, or whose posts find a full pair.
 #[derive(Clone, Copy)]
-pub enum Delivery {
-    /// No message waited.
-    Nothing,
-    /// The message was carried.
-    Carried,
-    /// The message was carried, and with it the receiving station answers its request.
-    Answered(Answer),
-    /// The message fits nothing, or what it brings about finds a full pair.
-    Stray,
-}
+pub struct StrayMessage;

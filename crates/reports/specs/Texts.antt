@@ -1,15 +1,17 @@
 -- What is printed of the calls of a site and of their outcomes.
-use Rattle.std.specs.Prelude.{ℕ, List, [], ◌∷◌, ◌++◌, take, codes, decimal, filter}
+use Rattle.std.specs.Prelude.{ℕ, List, [], ◌∷◌, ◌++◌, Result, Ok, Err, codes, decimal, filter}
 use Rattle.std.specs.List.{range_with_len, flat_map}
 use Rattle.events.specs.Members.{member}
-use Rattle.events.specs.declared.event_set.EventSet.{EventSet}
+use Rattle.events.specs.Sets.{EventSet}
 use Rattle.rules.specs.Answers.{answer}
 use Rattle.protocol.specs.Refusals.{refusal_number}
 use Rattle.protocol.specs.declared.answer.Answer.{Answer}
 use Rattle.protocol.specs.declared.call.Call.{Call}
 use Rattle.protocol.specs.declared.call.Call.TheVariants.{Start, Request, Carry, Settle, WorkList, Tally}
-use Rattle.protocol.specs.declared.call.Outcome.{Outcome}
-use Rattle.protocol.specs.declared.call.Outcome.TheVariants.{Refused, Started, Opened, Nothing, Carried, Answered, Settled, Listed, Tallied}
+use Rattle.protocol.specs.declared.call.Reply.{Reply}
+use Rattle.protocol.specs.declared.call.Reply.TheVariants.{Started, Opened, Nothing, Carried, Answered, Settled, Listed, Tallied}
+use Rattle.protocol.specs.declared.refusal.Refusal.{Refusal}
+use Rattle.protocol.specs.Outcomes.{entries}
 
 -- E N W: the event, the number of what is answered, and the event that it names
 abbrev pub answer_text : Answer → List ℕ
@@ -49,14 +51,18 @@ call_text (Settle room) = codes "z"
 call_text WorkList = codes "w"
 call_text (Tally station) = codes "y " ++ decimal station
 
-abbrev pub outcome_text : Outcome → List ℕ
-outcome_text (Refused refusal) = codes "refused " ++ decimal (refusal_number refusal)
-outcome_text Started = codes "started"
-outcome_text Opened = codes "open"
-outcome_text Nothing = codes "nothing waits"
-outcome_text Carried = codes "carried"
-outcome_text (Answered a) = codes "answer " ++ answer_text a
-outcome_text (Settled table answers messages) =
-    decimal answers ++ (codes " answers, " ++ (decimal messages ++ (codes " messages" ++ answers_text (take answers table))))
-outcome_text (Listed enabled owed) = codes "enabled" ++ (events_text enabled ++ (codes "; owed" ++ events_text owed))
-outcome_text (Tallied owed) = codes "owed" ++ events_text owed
+-- what a call gives that is not refused
+abbrev pub reply_text : Reply → List ℕ
+reply_text Started = codes "started"
+reply_text Opened = codes "open"
+reply_text Nothing = codes "nothing waits"
+reply_text Carried = codes "carried"
+reply_text (Answered a) = codes "answer " ++ answer_text a
+reply_text (Settled answers messages) =
+    decimal answers.count ++ (codes " answers, " ++ (decimal messages ++ (codes " messages" ++ answers_text (entries answers))))
+reply_text (Listed enabled owed) = codes "enabled" ++ (events_text enabled ++ (codes "; owed" ++ events_text owed))
+reply_text (Tallied owed) = codes "owed" ++ events_text owed
+
+abbrev pub outcome_text : Result Reply Refusal → List ℕ
+outcome_text (Ok reply) = reply_text reply
+outcome_text (Err refusal) = codes "refused " ++ decimal (refusal_number refusal)

@@ -1,40 +1,35 @@
-ghost use Rattle.reports.specs.Texts.{answer_text, answers_text, next_text};
-ghost use Rattle.std.specs.Prelude.{◌≡◌, IfOk, string_bytes};
-ghost use Rattle.std.specs.List.{flat_map};
+ghost use Rattle.protocol.specs.Outcomes.{entries};
+ghost use Rattle.reports.specs.Texts.{answer_text, answers_text};
+ghost use Rattle.std.specs.Prelude.{Some};
 
-use protocol::answer::Answer;
-use std::alloc::{AllocError, Global};
+use crate::shown::Shown;
+use protocol::answer::{Answer, Answers};
+use std::fmt;
 
 /// The event, the number of the answer, and the event that it names.
-pub fn answer_text(heap: Global, answer: Answer) -> Result<String, AllocError>
-    ensures { IfOk result (λ s. string_bytes s ≡ answer_text answer) }
-{
-    let event = answer.event;
-    let number = answer.decision.number();
-    let named = answer.decision.named(event);
-    format!(in heap; "{event} {number} {named}")
+impl fmt::Display for Shown<Answer> {
+    ghost output = { λ s. Some (answer_text s.0) };
+
+    fn fmt<W: fmt::Write>(&self, f: &mut fmt::Formatter<W>) -> fmt::Result {
+        let Answer { event, decision } = self.0;
+        let number = u8::from(decision);
+        let named = decision.named(event);
+        write!(f, "{event} {number} {named}")
+    }
 }
 
 /// A colon and the answers, with a semicolon between two; nothing for no answer.
-pub(crate) fn answers_text(heap: Global, answers: &[Answer]) -> Result<String, AllocError>
-    ensures { IfOk result (λ s. string_bytes s ≡ answers_text answers.now) }
-{
-    let [first, rest @ ..] = answers else {
-        return Ok(String::new(heap));
-    };
-    let first = answer_text(heap, *first)?;
-    let rest = further_text(heap, rest)?;
-    format!(in heap; ": {first}{rest}")
-}
+impl fmt::Display for Shown<Answers> {
+    ghost output = { λ s. Some (answers_text (entries s.0)) };
 
-fn further_text(heap: Global, answers: &[Answer]) -> Result<String, AllocError>
-    ensures { IfOk result (λ s. string_bytes s ≡ flat_map next_text answers.now) }
-{
-    let mut text = String::new(heap);
-    for answer in answers {
-        let further = answer_text(heap, *answer)?;
-        text.push_str("; ")?;
-        text.push_str(further.as_str())?;
+    fn fmt<W: fmt::Write>(&self, f: &mut fmt::Formatter<W>) -> fmt::Result {
+        let answers = self.0.as_slice();
+        if let [first, rest @ ..] = answers {
+            write!(f, ": {}", Shown(*first))?;
+            for answer in rest {
+                write!(f, "; {}", Shown(*answer))?;
+            }
+        }
+        Ok(())
     }
-    Ok(text)
 }

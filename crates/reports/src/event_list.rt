@@ -1,22 +1,21 @@
 ghost use Rattle.reports.specs.Texts.{events_text};
-ghost use Rattle.std.specs.Prelude.{◌≡◌, IfOk, string_bytes};
+ghost use Rattle.std.specs.Prelude.{Some};
 
+use crate::shown::Shown;
 use events::EventSet;
-use std::alloc::{AllocError, Global};
+use std::fmt;
 
 /// A space and the number of each member, lowest first, or ` none`.
-pub fn events_text(heap: Global, events: EventSet) -> Result<String, AllocError>
-    ensures { IfOk result (λ s. string_bytes s ≡ events_text events) }
-{
-    let mut text = String::new(heap);
-    for event in 0..64u8 {
-        if events.has(event) {
-            let number = format!(in heap; " {event}")?;
-            text.push_str(number.as_str())?;
+impl fmt::Display for Shown<EventSet> {
+    ghost output = { λ s. Some (events_text s.0) };
+
+    fn fmt<W: fmt::Write>(&self, f: &mut fmt::Formatter<W>) -> fmt::Result {
+        if self.0.is_empty() {
+            return f.write_str(" none");
         }
+        for event in self.0.members() {
+            write!(f, " {event}")?;
+        }
+        Ok(())
     }
-    if text.is_empty() {
-        text.push_str(" none")?;
-    }
-    Ok(text)
 }

@@ -5,8 +5,6 @@ mod answer;
 mod call;
 mod event_list;
 mod outcome;
+mod shown;
 
-pub use answer::answer_text;
-pub use call::call_text;
-pub use event_list::events_text;
-pub use outcome::outcome_text;
+pub use shown::Shown;

@@ -1,7 +1,7 @@
 -- The rule of a release is right in the words of the graph's relations.
 use Rattle.std.proofs.Common.{◌≡◌, ℕ, ◌<◌, Bool, true, false, not, length, Some, None, Decides, Option, sym, refl, ap, ◌∙◌, subst, inl, inr, arith}
 use Rattle.std.proofs.lemmas.Bool.Decides.{nat_tests, Decides-eqb, Decides-and, Decides-or, Decides-not}
-use Rattle.std.proofs.lemmas.Bool.{both_ways, cases_order, cond-true, cond-false, false≢true, le-ltb, lt-ltb, not-true, not_from_false}
+use Rattle.std.proofs.lemmas.Bool.{both_ways, cases_order, cond-true, cond-false, false≢true, false_from_ne_true, le-ltb, lt-ltb, not-true, not_from_false}
 use Rattle.events.specs.Members.{named}
 use Rattle.events.specs.declared.marks.Marks.{Marks}
 use Rattle.graph.specs.Content.{Content, Sound}
@@ -14,7 +14,7 @@ use Rattle.rules.specs.declared.decision.Decision.{Decision}
 use Rattle.rules.specs.declared.decision.Decision.TheVariants.{Accepted, Excluded, Unmet, Held}
 use Rattle.rules.specs.Laws.{holding-within, locked-within, unmet-within}
 use Rattle.rules.specs.Lowest.{Tells, lowest-tells}
-use Rattle.rules.specs.Related.{Telling, Within, never_true, read-tells, read-within}
+use Rattle.rules.specs.Related.{Telling, Within, read-tells, read-within}
 
 is_true : (b : Bool) → Decides b (b ≡ true)
 is_true b = (λ h. h, λ h. h)
@@ -131,6 +131,6 @@ rightful v c s =
       enables = λ e M. enables L e M _ (right rel L t n w e M);
       does = λ e M k l. subst (After L e k (M k)) (sym (cond-true _ _ _ (lt-ltb e n l))) (after-tells rel L t e k (M k));
       locks = locks-tells rel L t n;
-      lacks_locks = λ e k l. never_true _ (λ h. omega (arith, (locked-within rel n w e k h).0));
+      lacks_locks = λ e k l. false_from_ne_true _ (λ h. omega (arith, (locked-within rel n w e k h).0));
       lacks_effect = λ e M k l. cond-false _ _ _ (le-ltb e n l);
     }

@@ -1,7 +1,7 @@
 -- A set of events for each event.
 use Rattle.std.specs.Prelude.{ℕ, Bool, List, slice_index_or}
 use Rattle.events.specs.Members.{member}
-use Rattle.events.specs.declared.event_set.EventSet.{EventSet}
+use Rattle.events.specs.Sets.{EventSet}
 
 abbrev pub none : EventSet
 none = record { bits = 0 }

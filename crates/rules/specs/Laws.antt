@@ -2,7 +2,7 @@
 use Rattle.std.specs.Prelude.{◌≡◌, ℕ, ◌<◌, ◌≤◌, true, false, cond, length, None, nat_lt, refl}
 use Rattle.std.proofs.Common.{ap, inl, inr, arith}
 use Rattle.std.proofs.lemmas.Bool.Decides.{nat_tests}
-use Rattle.std.proofs.lemmas.List.{get_or_past, length-take-le}
+use Rattle.std.proofs.lemmas.List.{get_or_past}
 use Rattle.std.proofs.lemmas.Bool.{cases_lt}
 use Rattle.events.specs.declared.marks.Marks.{Marks}
 use Rattle.graph.proofs.Drafts.{sound}
@@ -72,18 +72,17 @@ nothing-holds c e M = lowest-none _ _ (λ j. refl)
 -- ---- the laws of a rule over a graph
 
 module _ (g : Graph) where
+  pub graph-within : (v : Release) → Within (length (content g).events) (read v (content g).relations)
+  graph-within v = read-within v _ (content g).relations (sound g.draft).ends
+
   pub lawful-graph : (v : Release) → Lawful (meant v (content g))
-  lawful-graph v = lawful-of _ (read v (content g).relations) (sound g.draft) (read-within v _ (content g).relations (sound g.draft).ends)
+  lawful-graph v = lawful-of _ (read v (content g).relations) (sound g.draft) (graph-within v)
 
   pub stationed-graph : (1 ≤ (content g).stations) × ((content g).stations ≤ 8)
   stationed-graph = let s = sound g.draft in (s.some_stations, s.few_stations)
 
   pub sized-graph : (1 ≤ length (content g).events) × (length (content g).events ≤ 64)
-  sized-graph =
-      let few = g.draft.sized in
-      let long = g.draft.long in
-      let events = length-take-le g.draft.events g.draft.rows (omega arith) in
-      (omega (arith, g.some), omega arith)
+  sized-graph = (g.some, (sound g.draft).few_events)
 
   pub owner-few : (e : ℕ) → (event_at (content g).events e).owner < 8
   owner-few e =

@@ -28,6 +28,10 @@ only_one : (p : ℕ → Bool) (n : ℕ) (o : Option ℕ) → Tells p n o → (k 
 only_one p n None h k q l m = let z = h k l in grind arith
 only_one p n (Some u) h k q l m = let z = h.0 in let y = h.2 k in let x = m u in grind arith
 
+-- a number that passes where none below it does is the lowest
+pub lowest-is : (p : ℕ → Bool) (n k : ℕ) → p k ≡ true → k < n → ((j : ℕ) → j < k → p j ≡ false) → lowest p n ≡ Some k
+lowest-is p n = only_one p n (lowest p n) (lowest-tells p n)
+
 only_none : (p : ℕ → Bool) (n : ℕ) (o : Option ℕ) → Tells p n o → ((j : ℕ) → p j ≡ false) → o ≡ None
 only_none p n None h z = refl
 only_none p n (Some u) h z = let y = h.0 in let x = z u in grind arith
@@ -40,4 +44,4 @@ pub lowest-member : (p : ℕ → Bool) (n set : ℕ) (o : Option ℕ) → ((k : 
 lowest-member p n set None same within h = sym (lowest-none p n (λ j. sym (same j) ∙ h j))
 lowest-member p n set (Some k) same within h =
     let t : p k ≡ true = sym (same k) ∙ h.here in
-    sym (only_one p n (lowest p n) (lowest-tells p n) k t (within k t) (λ j l. sym (same j) ∙ h.least j l))
+    sym (lowest-is p n k t (within k t) (λ j l. sym (same j) ∙ h.least j l))

@@ -1,19 +1,16 @@
 -- The relations of a list, as tests and in words.
-use Rattle.std.specs.Prelude.{◌≡◌, ℕ, zero, suc, ◌<◌, Bool, true, false, List, [], ◌∷◌, length, Decides, ◌≢◌, refl}
-use Rattle.std.proofs.Common.{ap, ⊎_elim, arith}
-use Rattle.std.proofs.lemmas.Bool.Decides.{nat_tests, Decides-and}
-use Rattle.std.proofs.lemmas.Bool.{or_cases, or_left, or_right, not-true, not_from_false, false≢true}
-use Rattle.graph.specs.Content.{EndsIn, relation_at}
+use Rattle.std.specs.Prelude.{◌≡◌, ℕ, ◌<◌, true, List, Decides, refl}
+use Rattle.std.proofs.Common.{ap, ◌∙◌, arith}
+use Rattle.std.proofs.lemmas.Bool.Decides.{nat_tests, Decides-and, Decides-by_or, Decides-like}
+use Rattle.std.proofs.lemmas.Bool.{not-true, not_from_false}
+use Rattle.std.proofs.lemmas.List.{get_or_default}
+use Rattle.graph.specs.Content.{EndsIn, blank}
 use Rattle.graph.specs.Kinds.{kind_number}
 use Rattle.graph.specs.declared.kind.Kind.{Kind}
 use Rattle.graph.specs.declared.relation.Relation.{Relation}
 use Rattle.graph.specs.declared.release.Release.{Release}
 use Rattle.rules.specs.Semantics.{Relations, is, read, related}
 use Rattle.rules.specs.Words.{Links, Related, RelatedIn}
-
-pub never_true : (b : Bool) → (b ≢ true) → b ≡ false
-never_true true h = absurd (h refl)
-never_true false h = refl
 
 same_kind : (k l : Kind) → kind_number k ≡ kind_number l → k ≡ l
 same_kind k l h = grind arith
@@ -35,23 +32,12 @@ is-tells k a b r = (
       grind (arith, nat_tests),
 )
 
-related-to : (rs : List Relation) (k : Kind) (a b : ℕ) → related rs k a b ≡ true → Related rs k a b
-unfolding related
-related-to [] k a b t = absurd (false≢true t)
-related-to (r ∷ rs) k a b t =
-    ⊎_elim
-    (λ h. (0, omega arith, (is-tells k a b r).0 h))
-    (λ h. let q = related-to rs k a b h in (suc q.0, omega (arith, q.1), q.2))
-    (or_cases _ _ t)
-
-related-from : (rs : List Relation) (k : Kind) (a b i : ℕ) → i < length rs → relation_at rs i ≡ record { kind = k; from = a; to = b } → related rs k a b ≡ true
-unfolding related
-related-from [] k a b i l q = absurd (omega arith)
-related-from (r ∷ rs) k a b zero l q = or_left _ _ ((is-tells k a b r).1 q)
-related-from (r ∷ rs) k a b (suc i) l q = or_right (is k a b r) _ (related-from rs k a b i (omega arith) q)
-
 pub related-tells : (rs : List Relation) (k : Kind) (a b : ℕ) → Decides (related rs k a b) (Related rs k a b)
-related-tells rs k a b = (related-to rs k a b, λ h. related-from rs k a b h.0 h.1 h.2)
+unfolding related
+related-tells rs k a b =
+    let R : Relation = record { kind = k; from = a; to = b } in
+    Decides-like _ (λ h. (h.0, h.1, h.2 blank)) (λ h. (h.0, h.1, λ d. get_or_default rs h.0 d blank h.1 ∙ h.2))
+    (Decides-by_or (is k a b) (λ r. r ≡ R) (λ l. related l k a b) (is-tells k a b) refl (λ _ _. refl) rs)
 
 -- the tests say what the words say
 abbrev pub Telling : Relations → Links → Type 0

@@ -2,6 +2,7 @@ ghost use Rattle.rules.specs.Answers.{accepted, answer, reply};
 ghost use Rattle.std.specs.Prelude.{◌≡◌, Err};
 
 /// What a rule decides of an event. A refusal names the event that stands in the way.
+// No `Result`: a refusal is the answer that tables and sites hand on, and no caller stops at it.
 #[derive(Clone, Copy)]
 pub enum Decision {
     /// The event may be done.
@@ -19,22 +20,7 @@ impl Decision {
     pub fn is_accepted(self) -> bool
         ensures { result ≡ accepted self }
     {
-        match self {
-            Decision::Accepted => true,
-            Decision::Excluded(_) | Decision::Unmet(_) | Decision::Held(_) => false,
-        }
-    }
-
-    /// The number of the answer: 0 for an accepted event, else why it is refused.
-    pub fn number(self) -> u8
-        ensures { result ≡ (answer self 0).0 }
-    {
-        match self {
-            Decision::Accepted => 0,
-            Decision::Excluded(_) => 21,
-            Decision::Unmet(_) => 22,
-            Decision::Held(_) => 23,
-        }
+        matches!(self, Decision::Accepted)
     }
 
     /// The event that the answer to a request of `event` names.
@@ -48,15 +34,29 @@ impl Decision {
     }
 }
 
+/// The number of the answer: 0 for an accepted event, else why it is refused.
+impl From<Decision> for u8 {
+    ghost from_gives = { λ decision number. number ≡ (answer decision 0).0 };
+
+    fn from(decision: Decision) -> u8 {
+        match decision {
+            Decision::Accepted => 0,
+            Decision::Excluded(_) => 21,
+            Decision::Unmet(_) => 22,
+            Decision::Held(_) => 23,
+        }
+    }
+}
+
 /// The refusal of an event that the rule lacks.
 #[derive(Clone, Copy)]
 pub struct UnknownEvent;
 
-impl UnknownEvent {
-    /// The number of the refusal.
-    pub fn number(self) -> u8
-        ensures { result ≡ (reply (Err self) 0).0 }
-    {
+/// The number of the refusal.
+impl From<UnknownEvent> for u8 {
+    ghost from_gives = { λ refusal number. number ≡ (reply (Err refusal) 0).0 };
+
+    fn from(_: UnknownEvent) -> u8 {
         9
     }
 }

@@ -1,106 +1,138 @@
+ghost use Rattle.std.specs.Prelude.{◌≡◌, ℕ, length};
+ghost use Rattle.events.specs.Marks.{marks};
 ghost use Rattle.graph.specs.Held.{content};
-ghost use Rattle.rules.specs.Releases.{ReleasesAgree, picked};
-ghost use Rattle.rules.specs.Semantics.{meant};
-ghost use Rattle.rules.specs.Words.{Rightful};
-ghost use Rattle.std.specs.Prelude.{◌≡◌};
-ghost use Rattle.graph.specs.declared.release.Release.TheVariants as Releases;
-ghost use Rattle.rules.specs.declared.release_rule.ReleaseRule.TheVariants.{Four, Six};
+ghost use Rattle.graph.specs.declared.kind.Kind.{Kind as AnyKind};
+ghost use Rattle.rules.specs.Masked.{linked};
 ghost use Rattle.rules.specs.Laws.{lawful-graph, stationed-graph, sized-graph, owner-few};
+ghost use Rattle.rules.specs.Releases.{ReleasesAgree};
+ghost use Rattle.rules.specs.Semantics.{holding, lowest, meant, read, unmet};
+ghost use Rattle.rules.specs.Words.{Rightful};
 
 use crate::decision::Decision;
-use crate::release4::Release4;
-use crate::release6::Release6;
+use crate::masks::Masks;
 use crate::rule::Rule;
 use events::{EventSet, Marking};
 use graph::graph::Graph;
 use graph::release::Release;
 
-/// The rule that a graph's release picks.
+/// The rule of a release over a graph.
 #[derive(Drop)]
-pub enum ReleaseRule {
-    Four(Release4),
-    Six(Release6),
+pub struct ReleaseRule {
+    graph: Graph,
+    release: Release,
+    // The relations that the release reads, and no others: so the rest is the same in each release.
+    masks: Masks,
+    ghost ties: { ((kind : AnyKind) (a b : ℕ) → linked masks kind a b ≡ read release (content graph).relations kind a b) },
 }
 
 impl ReleaseRule {
+    /// The rule of that release over the graph, whose relations it compiles to masks.
+    pub fn new(graph: Graph, release: Release) -> ReleaseRule
+        ensures of { result.graph ≡ graph }
+        ensures release { result.release ≡ release }
+        ensures right { Rightful release (content graph) (meant result.release (content result.graph)) }
+    {
+        let masks = Masks::of(&graph, release);
+        ReleaseRule {
+            graph,
+            release,
+            masks,
+        }
+    }
+
     /// The rule of the graph's own release over the graph.
     pub fn of(graph: Graph) -> ReleaseRule
-        ensures of { picked result ≡ meant (content graph).release (content graph) }
-        ensures right { Rightful (content graph).release (content graph) (picked result) }
+        ensures of { meant result.release (content result.graph) ≡ meant (content graph).release (content graph) }
+        ensures right { Rightful (content graph).release (content graph) (meant result.release (content result.graph)) }
     {
-        match graph.release() {
-            Release::Four => ReleaseRule::Four(Release4::new(graph)),
-            Release::Six => ReleaseRule::Six(Release6::new(graph)),
-        }
+        let release = graph.release();
+        ReleaseRule::new(graph, release)
+    }
+
+    // The lowest condition source of the event that is included and not executed.
+    // A function beside the next: what differs is the test, which each contract names.
+    fn unmet_condition(&self, event: u8, marking: &Marking) -> Option<u8>
+        ensures { result ≡ lowest (unmet (read self.now.release (content self.now.graph).relations) event (marks marking.now)) (length (content self.now.graph).events) }
+    {
+        let included = self.masks.conditions.row(event).common(marking.included);
+        included.minus(marking.executed).lowest()
+    }
+
+    // The lowest milestone source of the event that is included and pending.
+    fn holding_milestone(&self, event: u8, marking: &Marking) -> Option<u8>
+        ensures { result ≡ lowest (holding (read self.now.release (content self.now.graph).relations) event (marks marking.now)) (length (content self.now.graph).events) }
+    {
+        let included = self.masks.milestones.row(event).common(marking.included);
+        included.common(marking.pending).lowest()
     }
 }
 
 impl Rule for ReleaseRule {
-    ghost meaning = { picked };
+    ghost meaning = { λ r. meant r.release (content r.graph) };
 
-    ghost lawful = { elim [
-      | Four r ↦ lawful-graph r.compiled.graph Releases.Four
-      | Six r ↦ lawful-graph r.compiled.graph Releases.Six
-    ] };
+    ghost lawful = { λ r. lawful-graph r.graph r.release };
 
-    ghost stationed = { elim [
-      | Four r ↦ stationed-graph r.compiled.graph
-      | Six r ↦ stationed-graph r.compiled.graph
-    ] };
+    ghost stationed = { λ r. stationed-graph r.graph };
 
-    ghost sized = { elim [
-      | Four r ↦ sized-graph r.compiled.graph
-      | Six r ↦ sized-graph r.compiled.graph
-    ] };
+    ghost sized = { λ r. sized-graph r.graph };
 
-    ghost owned = { elim [ Four r ↦ owner-few r.compiled.graph | Six r ↦ owner-few r.compiled.graph ] };
+    ghost owned = { λ r. owner-few r.graph };
 
     fn stations(&self) -> u8 {
-        match self {
-            ReleaseRule::Four(rule) => rule.stations(),
-            ReleaseRule::Six(rule) => rule.stations(),
-        }
+        self.graph.stations()
     }
 
     fn events(&self) -> u8 {
-        match self {
-            ReleaseRule::Four(rule) => rule.events(),
-            ReleaseRule::Six(rule) => rule.events(),
-        }
+        self.graph.events().len() as u8
     }
 
+    // An event that the graph lacks has owner 0.
     fn owner(&self, event: u8) -> u8 {
-        match self {
-            ReleaseRule::Four(rule) => rule.owner(event),
-            ReleaseRule::Six(rule) => rule.owner(event),
-        }
+        let owned = self.graph.events().get(event as usize);
+        owned.map_or(0, |event| event.owner)
     }
 
     fn start(&self) -> Marking {
-        match self {
-            ReleaseRule::Four(rule) => rule.start(),
-            ReleaseRule::Six(rule) => rule.start(),
+        let mut start = Marking::blank();
+        for (number, event) in self.graph.events().iter().enumerate() {
+            start = start.with_marks(number as u8, event.marks);
         }
+        start
     }
 
     fn locks(&self, event: u8) -> EventSet {
-        match self {
-            ReleaseRule::Four(rule) => rule.locks(event),
-            ReleaseRule::Six(rule) => rule.locks(event),
-        }
+        EventSet::first(self.events())
+            .common(EventSet::empty().with(event))
+            .union(self.masks.conditions.row(event))
+            .union(self.masks.responses.row(event))
+            .union(self.masks.includes.row(event))
+            .union(self.masks.excludes.row(event))
+            .union(self.masks.milestones.row(event))
     }
 
     fn decide(&self, event: u8, marking: &Marking) -> Decision {
-        match self {
-            ReleaseRule::Four(rule) => rule.decide(event, marking),
-            ReleaseRule::Six(rule) => rule.decide(event, marking),
+        if !marking.included.has(event) {
+            return Decision::Excluded(event);
+        }
+        if let Some(source) = self.unmet_condition(event, marking) {
+            return Decision::Unmet(source);
+        }
+        match self.holding_milestone(event, marking) {
+            Some(source) => Decision::Held(source),
+            None => Decision::Accepted,
         }
     }
 
     fn perform(&self, event: u8, marking: &Marking) -> Marking {
-        match self {
-            ReleaseRule::Four(rule) => rule.perform(event, marking),
-            ReleaseRule::Six(rule) => rule.perform(event, marking),
+        if event >= self.events() {
+            return *marking;
+        }
+        let pending = marking.pending.without(event);
+        let included = marking.included.union(self.masks.includes.row(event));
+        Marking {
+            executed: marking.executed.with(event),
+            pending: pending.union(self.masks.responses.row(event)),
+            included: included.minus(self.masks.excludes.row(event)),
         }
     }
 }

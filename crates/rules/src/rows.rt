@@ -24,10 +24,9 @@ impl Rows {
     pub(crate) fn row(&self, event: u8) -> EventSet
         ensures { (k : ℕ) → member result.bits k ≡ cell self.now.sets event k }
     {
-        if event < 64 {
-            self.sets[event as usize]
-        } else {
-            EventSet::empty()
+        match self.sets.get(event as usize) {
+            Some(set) => *set,
+            None => EventSet::empty(),
         }
     }
 

@@ -1,5 +1,5 @@
 -- One call more of a list.
-use Rattle.std.proofs.Common.{◌≡◌, ℕ, ◌+◌, ◌<◌, ◌≤◌, false, List, [], ◌∷◌, ◌++◌, map, length, get_or, take, drop, set, sym, ap, ◌∙◌, subst, subst₂, append_assoc, append-nil, arith}
+use Rattle.std.proofs.Common.{◌≡◌, ℕ, ◌+◌, ◌<◌, ◌≤◌, false, List, [], ◌∷◌, ◌++◌, map, length, get_or, take, drop, set, sym, ap, ◌∙◌, subst, subst₂, append_assoc, arith}
 use Rattle.std.proofs.lemmas.List.{drop-drop, drop-set-lt, take_more, take_more_set}
 use Rattle.lines.specs.Lists.{Lists, inside}
 use Rattle.lines.specs.Messages.{reads}
@@ -9,13 +9,9 @@ use Rattle.protocol.specs.Promise.{Promise, Proper}
 use Rattle.protocol.specs.Served.{Served}
 use Rattle.protocol.specs.Turns.{Status}
 use Rattle.protocol.specs.declared.call.Call.{Call}
-use Rattle.protocol.specs.declared.call.Outcome.{Outcome}
+use Rattle.protocol.specs.Outcomes.{Outcome}
 use Rattle.protocol.specs.Queues.{queues}
 use Rattle.runs.specs.Running.{Lasts, Promised}
-
--- no call yet
-pub lasts-none : (R : Meaning) (limit : ℕ) (h : Status) → Lasts R limit h [] [] h
-lasts-none R limit h before past told p = subst₂ (λ a b. Promise R limit before a b h) (sym (append-nil past)) (sym (append-nil told)) p
 
 -- one turn of a loop over the calls; x is the rule at the start, and y the rule now
 pub lasts-more : {X : Type 0} (means : X → Meaning) (limit : ℕ) (x y : X) → Proper (means x) → 3 ≤ limit → (h g k : Status) (calls : List Call) (i : ℕ) (d : Call) (outcomes : List Outcome) (o : Outcome)

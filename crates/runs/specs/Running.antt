@@ -4,7 +4,7 @@ use Rattle.protocol.specs.Promise.{Promise}
 use Rattle.protocol.specs.Queues.{Queues}
 use Rattle.protocol.specs.Turns.{Status}
 use Rattle.protocol.specs.declared.call.Call.{Call}
-use Rattle.protocol.specs.declared.call.Outcome.{Outcome}
+use Rattle.protocol.specs.Outcomes.{Outcome}
 use Rattle.rules.specs.Rule.{Meaning}
 
 -- whatever was called before: if the promise holds of it, and left h, then it holds of it together with these calls, which leave g

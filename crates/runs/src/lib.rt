@@ -1,4 +1,5 @@
-//! Lists of calls of a site, and what is promised of them.
+//! Lists of calls of a site, single calls of a table, and what is promised of them.
 #![tactic(auto)]
 
 pub mod run;
+pub mod table;

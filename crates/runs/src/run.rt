@@ -5,11 +5,11 @@ ghost use Rattle.site.specs.Served.{CallServed};
 ghost use Rattle.site.specs.Statuses.{status};
 
 use lines::line::Line;
-use protocol::answer::Answer;
-use protocol::call::{Call, Outcome};
+use protocol::answer::{Answer, Answers};
+use protocol::call::{Call, Outcome, Reply};
 use rules::decision::Decision;
 use rules::rule::Rule;
-use site::site::{CarryAnswer, Settlement, Site, WorkList};
+use site::site::Site;
 
 // A settle with a table of its own, of so many entries as are asked for, but no more than eight.
 fn settle_within<R: Rule + Drop, L: Line + Drop>(site: &mut Site<R, L>, room: usize) -> Outcome
@@ -21,14 +21,15 @@ fn settle_within<R: Rule + Drop, L: Line + Drop>(site: &mut Site<R, L>, room: us
         decision: Decision::Accepted,
     };
     let mut table = [none; 8];
-    match site.settle(&mut table[0..room.min(8)]) {
-        Ok(Settlement { answers, messages }) => Outcome::Settled {
-            table,
-            answers,
-            messages,
-        },
-        Err(refusal) => Outcome::Refused(refusal),
-    }
+    let settlement = site.settle(&mut table[0..room.min(8)])?;
+    let answers = Answers {
+        table,
+        count: settlement.answers,
+    };
+    Ok(Reply::Settled {
+        answers,
+        messages: settlement.messages,
+    })
 }
 
 /// Makes the call.
@@ -37,33 +38,26 @@ pub fn serve<R: Rule + Drop, L: Line + Drop>(site: &mut Site<R, L>, call: Call) 
     ensures { CallServed R.Rule L.Line site.old call result site.new }
 {
     match call {
-        Call::Start => match site.start() {
-            Ok(()) => Outcome::Started,
-            Err(refusal) => Outcome::Refused(refusal),
-        },
-        Call::Request { station, event } => match site.request(station, event) {
-            Ok(()) => Outcome::Opened,
-            Err(refusal) => Outcome::Refused(refusal),
-        },
-        Call::Carry { from, to } => match site.carry(from, to) {
-            Ok(CarryAnswer::Nothing) => Outcome::Nothing,
-            Ok(CarryAnswer::Carried) => Outcome::Carried,
-            Ok(CarryAnswer::Answered(answer)) => Outcome::Answered(answer),
-            Err(refusal) => Outcome::Refused(refusal),
-        },
+        Call::Start => {
+            site.start()?;
+            Ok(Reply::Started)
+        }
+        Call::Request { station, event } => {
+            site.request(station, event)?;
+            Ok(Reply::Opened)
+        }
+        Call::Carry { from, to } => Ok(site.carry(from, to)?.into()),
         Call::Settle { room } => settle_within(site, room),
-        Call::WorkList => match site.work_list() {
-            Ok(WorkList { enabled, owed }) => Outcome::Listed { enabled, owed },
-            Err(refusal) => Outcome::Refused(refusal),
-        },
-        Call::Tally { station } => match site.tally(station) {
-            Ok(owed) => Outcome::Tallied { owed },
-            Err(refusal) => Outcome::Refused(refusal),
-        },
+        Call::WorkList => Ok(site.work_list()?.into()),
+        Call::Tally { station } => {
+            let owed = site.tally(station)?;
+            Ok(Reply::Tallied { owed })
+        }
     }
 }
 
 /// Makes one call after another, as long as there is a place for its outcome, and tells how many.
+// The caller lends the places beside the calls, so that no memory is taken.
 pub fn serve_all<R: Rule + Drop, L: Line + Drop>(
     site: &mut Site<R, L>,
     calls: &[Call],
@@ -77,8 +71,9 @@ pub fn serve_all<R: Rule + Drop, L: Line + Drop>(
     ensures promise { Lasts (R.Rule.meaning site.old.rule) L.Line.most (status L.Line site.old) (take result calls.now) (take result outcomes.new) (status L.Line site.new) }
 {
     let count = calls.len().min(outcomes.len());
-    for i in 0..count {
-        outcomes[i] = serve(site, calls[i]);
+    // The outcomes by index: of what is written through `iter_mut` in a zip a proof knows nothing.
+    for (i, call) in calls[..count].iter().enumerate() {
+        outcomes[i] = serve(site, *call);
     }
     count
 }

@@ -1,11 +1,5 @@
 use protocol::call::Call;
-
-/// A call of a table.
-#[derive(Clone, Copy)]
-pub enum TableCall {
-    Request(u8),
-    WorkList,
-}
+use runs::table::TableCall;
 
 /// Event 1 needs event 0 and event 2 needs event 1, and after event 0 event 1 is owed.
 pub const CHAINED: &[u8] = b"s 2 6\ne 0 0 4\ne 1 1 4\ne 2 0 4\nc 0 1\nc 1 2\nr 0 1\n";

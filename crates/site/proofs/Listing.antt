@@ -1,21 +1,20 @@
 -- What the lists of a site hold.
-use Rattle.std.proofs.Common.{◌≡◌, ℕ, ◌+◌, ◌<◌, ◌≤◌, Bool, true, false, cond, ◌&&◌, eqb, ltb, [], is_some, None, Option, sym, refl, ap, ◌∙◌, ap₂, inl, inr, arith, MatchOption}
-use Rattle.std.proofs.lemmas.Bool.{cases_eq, lt-ltb}
+use Rattle.std.proofs.Common.{◌≡◌, ℕ, ◌<◌, ◌≤◌, Bool, true, false, cond, ◌&&◌, eqb, ltb, [], is_some, None, Ok, Option, sym, refl, ap, ◌∙◌, ap₂, arith, MatchOption}
+use Rattle.std.proofs.lemmas.Bool.{lt-ltb}
 use Rattle.std.proofs.lemmas.Bool.Decides.{nat_tests}
 use Rattle.events.proofs.MemberLaws.{same-members}
-use Rattle.events.specs.Marks.{marks, unmarked}
+use Rattle.events.specs.Marks.{unmarked}
 use Rattle.events.specs.Members.{member}
-use Rattle.events.specs.declared.event_set.EventSet.{EventSet}
-use Rattle.events.specs.declared.marking.Marking.{Marking}
+use Rattle.events.specs.Sets.{EventSet}
 use Rattle.events.specs.declared.marks.Marks.{Marks}
-use Rattle.protocol.proofs.EventSets.{set_same, sets-hold}
+use Rattle.protocol.proofs.EventSets.{set_same, sets_hold}
 use Rattle.protocol.specs.EventSets.{is_enabled, is_owed, set_of}
 use Rattle.protocol.specs.Served.{Served}
 use Rattle.protocol.specs.Sites.{Site}
 use Rattle.protocol.specs.Station.{owns}
 use Rattle.protocol.specs.Turns.{Status, gathered, lowest_pair}
 use Rattle.protocol.specs.declared.call.Call.TheVariants.{Tally, WorkList}
-use Rattle.protocol.specs.declared.call.Outcome.TheVariants.{Listed, Tallied}
+use Rattle.protocol.specs.declared.call.Reply.TheVariants.{Listed, Tallied}
 use Rattle.rules.specs.Answers.{accepted}
 use Rattle.rules.specs.Rule.{Lawful, Meaning}
 use Rattle.tables.specs.Runs.{accepts}
@@ -28,28 +27,11 @@ use Rattle.site.proofs.Serving.{does}
 abbrev pub gathered_below : Meaning → Site → ℕ → ℕ → Marks
 gathered_below R S n e = cond (ltb (R.owner e) n) (gathered R S e) unmarked
 
--- the marks of one event, with the station n
-marks-more : (R : Meaning) (S : Site) (n e : ℕ) (before after : Marks) → e < R.events → before ≡ gathered_below R S n e → after ≡ cond (owns R n e) ((S.station n).marks e) before → after ≡ gathered_below R S (n + 1) e
-marks-more R S n e before after l i h =
-    elim (cases_eq (R.owner e) n) [
-      | inl q ↦ let s = ap (λ a. (S.station a).marks e) q in grind (arith, nat_tests)
-      | inr ne ↦ grind (arith, nat_tests)
-    ]
-
--- the own marks of the station n are laid over those of the stations before
-pub gathered-more : (R : Meaning) (S : Site) (n me : ℕ) (before laid after : Marking) → me ≡ n → after ≡ laid → ((k : ℕ) → marks laid k ≡ cond (owns R me k) ((S.station n).marks k) (marks before k)) → ((k : ℕ) → k < R.events → marks before k ≡ gathered_below R S n k) → (k : ℕ) → k < R.events → marks after k ≡ gathered_below R S (n + 1) k
-gathered-more R S n me before laid after p q h i k l =
-    ap (λ m. marks m k) q ∙ marks-more R S n k (marks before k) (marks laid k) l (i k l) (h k ∙ ap (λ a. cond (owns R a k) ((S.station n).marks k) (marks before k)) p)
-
--- every owner is below eight
-pub gathered-all : (R : Meaning) (S : Site) (n e : ℕ) (all : Marks) → R.owner e < 8 → 8 ≤ n → all ≡ gathered_below R S n e → all ≡ gathered R S e
-gathered-all R S n e all few l i = grind (arith, nat_tests)
-
 -- ---- sets of events
 
 -- a set of the events below n that pass the test
 set_is : (s : EventSet) (p : ℕ → Bool) (n : ℕ) → ((k : ℕ) → member s.bits k ≡ (ltb k n && p k)) → s ≡ set_of p n
-set_is s p n h = ap {B = EventSet} (λ (b : ℕ). record { bits = b }) (same-members s.bits (set_of p n).bits (λ k. h k ∙ sym (sets-hold p n k)))
+set_is s p n h = ap {B = EventSet} (λ (b : ℕ). record { bits = b }) (same-members s.bits (set_of p n).bits (λ k. h k ∙ sym (sets_hold p n k)))
 
 -- whether k is owed and an event of the rule
 known-owed : (events count k : ℕ) (marked owed known common : Bool) → events ≤ 64 → count ≡ events → owed ≡ marked → known ≡ (ltb k count && ltb k 64) → common ≡ (owed && known) → common ≡ (ltb k events && marked)
@@ -83,12 +65,12 @@ own-owed-is R S me at s own p q h =
 -- ---- the calls
 
 module _ (R : Meaning) (limit : ℕ) (h : Status) where
-  pub list-served : {X : Type 0} (F : X → Type 0) (pair : Option X) (enabled owed : EventSet) → h.is_open ≡ true → MatchOption pair (lowest_pair h.site.waits ≡ None) F → false ≡ is_some pair → enabled ≡ set_of (is_enabled R (gathered R h.site)) R.events → owed ≡ set_of (is_owed (gathered R h.site)) R.events → Served R limit h WorkList (Listed enabled owed) h
+  pub list-served : {X : Type 0} (F : X → Type 0) (pair : Option X) (enabled owed : EventSet) → h.is_open ≡ true → MatchOption pair (lowest_pair h.site.waits ≡ None) F → false ≡ is_some pair → enabled ≡ set_of (is_enabled R (gathered R h.site)) R.events → owed ≡ set_of (is_owed (gathered R h.site)) R.events → Served R limit h WorkList (Ok (Listed enabled owed)) h
   list-served F pair enabled owed is_open found none p q =
       let e = none_found F h.site.waits pair found none in
-      does R limit h h WorkList (Listed enabled owed) [] (rw (is_open, e)) (ap₂ (λ a b. Listed a b) p q, refl, refl)
+      does R limit h h WorkList (Ok (Listed enabled owed)) [] (rw (is_open, e)) (ap₂ (λ a b. Ok (Listed a b)) p q, refl, refl)
 
-  pub tally-served : (s : ℕ) (own : EventSet) → h.is_open ≡ true → s < R.stations → own ≡ set_of (λ e. owns R s e && is_owed (h.site.station s).marks e) R.events → Served R limit h (Tally s) (Tallied own) h
+  pub tally-served : (s : ℕ) (own : EventSet) → h.is_open ≡ true → s < R.stations → own ≡ set_of (λ e. owns R s e && is_owed (h.site.station s).marks e) R.events → Served R limit h (Tally s) (Ok (Tallied own)) h
   tally-served s own is_open l p =
       let t = lt-ltb s R.stations l in
-      does R limit h h (Tally s) (Tallied own) [] (rw (is_open, t)) (ap (λ a. Tallied a) p, refl, refl)
+      does R limit h h (Tally s) (Ok (Tallied own)) [] (rw (is_open, t)) (ap (λ a. Ok (Tallied a)) p, refl, refl)

@@ -1,18 +1,13 @@
 -- The lowest pair that holds a message, found by counts.
-use Rattle.std.proofs.Common.{◌≡◌, ℕ, ◌+◌, ◌/◌, ◌%◌, ◌<◌, ◌≤◌, Bool, true, false, List, [], ◌∷◌, map, length, is_some, Some, None, Option, refl, inl, inr, arith, MatchOption}
-use Rattle.std.proofs.lemmas.Bool.{cases_eq}
+use Rattle.std.proofs.Common.{◌≡◌, ℕ, ◌+◌, ◌*◌, ◌/◌, ◌%◌, ◌<◌, ◌≤◌, true, false, List, [], ◌∷◌, map, length, is_some, Some, None, Option, sym, refl, subst₂, arith, MatchOption}
 use Rattle.lines.specs.Lists.{Lists}
 use Rattle.lines.specs.Messages.{reads}
 use Rattle.lines.specs.declared.message.Message.{Message}
-use Rattle.rules.specs.Lowest.{Tells}
-use Rattle.protocol.proofs.Lowest.{lowest-is}
+use Rattle.rules.specs.Lowest.{lowest-is}
 use Rattle.protocol.proofs.Pairs.{pair-tells}
+use Rattle.stations.proofs.Lowests.{none_told}
 use Rattle.protocol.specs.Queues.{Queues, queues}
 use Rattle.protocol.specs.Turns.{holds_any, lowest_pair}
-
-none_told : (p : ℕ → Bool) (n : ℕ) (o : Option ℕ) → Tells p n o → ((k : ℕ) → k < n → p k ≡ false) → o ≡ None
-none_told p n None t h = refl
-none_told p n (Some k) t h = let z = t.0 in let y = h k t.1 in grind arith
 
 some_read : (q : List Message) → 0 < length q → holds_any (map reads q) ≡ true
 some_read [] h = absurd (omega arith)
@@ -34,8 +29,12 @@ module _ (W : Lists) where
   unfolding lowest_pair
   found k l h before = lowest-is (λ j. holds_any (queues W (j / 8) (j % 8))) 64 k (some_read (W (k / 8) (k % 8)) h) l (λ j m. none_read (W (j / 8) (j % 8)) (before j m))
 
-  pub none_more : (n : ℕ) → NoneBefore W n → length (W (n / 8) (n % 8)) ≤ 0 → NoneBefore W (n + 1)
-  none_more n h z k l = elim (cases_eq k n) [ inl s ↦ rw s z | inr d ↦ h k (omega arith) ]
+  -- the pairs before the pair a, b, and then that pair
+  pub found-at : (a b : ℕ) → a < 8 → b < 8 → 0 < length (W a b) → NoneBefore W (8 * a + b) → lowest_pair (queues W) ≡ Some (8 * a + b)
+  found-at a b l m h before =
+      let d : (8 * a + b) / 8 ≡ a = omega arith in
+      let e : (8 * a + b) % 8 ≡ b = omega arith in
+      found (8 * a + b) (omega arith) (subst₂ (λ x y. 0 < length (W x y)) (sym d) (sym e) h) before
 
 -- no pair was found, so none holds a message
 pub none_found : {X : Type 0} (F : X → Type 0) (Q : Queues) (o : Option X) → MatchOption o (lowest_pair Q ≡ None) F → false ≡ is_some o → lowest_pair Q ≡ None

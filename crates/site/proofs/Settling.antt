@@ -8,19 +8,20 @@ use Rattle.rules.specs.Rule.{Meaning}
 use Rattle.protocol.proofs.Pairs.{filled, holds_at, pair-tells}
 use Rattle.protocol.specs.Machine.{unless}
 use Rattle.protocol.specs.Queues.{Queues}
-use Rattle.protocol.specs.Served.{Served, Stuck}
+use Rattle.protocol.specs.Served.{Served}
 use Rattle.protocol.specs.Sites.{Site}
-use Rattle.protocol.specs.Turns.{Carries, Chain, Obeys, Serves, Status, Transfer, Turn, answers_in, holds_any, lowest_pair, one_answer, opened, refusal}
+use Rattle.protocol.specs.Turns.{Carries, Chain, Obeys, Serves, Status, Transfer, Turn, answers_in, holds_any, lowest_pair, one_answer, refusal}
 use Rattle.protocol.specs.declared.answer.Answer.{Answer}
 use Rattle.protocol.specs.declared.call.Call.TheVariants.{Settle}
-use Rattle.protocol.specs.declared.call.Outcome.TheVariants.{Refused, Settled}
-use Rattle.protocol.specs.declared.delivery.Delivery.{Delivery}
-use Rattle.protocol.specs.declared.delivery.Delivery.TheVariants.{Nothing, Carried, Answered, Stray as Astray}
+use Rattle.protocol.specs.declared.call.Reply.TheVariants.{Settled}
+use Rattle.protocol.specs.declared.delivery.StrayMessage.{StrayMessage}
 use Rattle.protocol.specs.declared.refusal.Refusal.{Refusal}
-use Rattle.protocol.specs.declared.refusal.Refusal.TheVariants.{ShortTable, Stray, WrongState}
+use Rattle.protocol.specs.declared.refusal.Refusal.TheVariants.{ShortTable, WrongState}
 use Rattle.site.specs.Outcomes.{settling}
-use Rattle.site.specs.Settling.{Carrying, Settles, noted}
+use Rattle.site.specs.Settling.{AllCarried, Carrying, Settles, noted}
 use Rattle.site.specs.Transfers.{Transferred}
+use Rattle.site.specs.declared.site.CarryAnswer.{CarryAnswer}
+use Rattle.site.specs.declared.site.CarryAnswer.TheVariants.{Nothing, Carried, Answered}
 use Rattle.site.specs.declared.site.Settlement.{Settlement}
 
 -- the lowest pair holds a message
@@ -71,20 +72,17 @@ chain_more R limit S T (y ∷ xs) x c l t d = (c.0, c.1, c.2, chain_more R limit
 
 -- ---- the settle
 
-allowed : (R : Meaning) (h : Status) (n : ℕ) → h.is_open ≡ true → 8 ≤ n → refusal R h (Settle n) ≡ None
-allowed R h n o room = grind (arith, nat_tests)
-
 -- a message from a to b, which leaves U
 abbrev over : ℕ → ℕ → Site → Option Answer → Transfer
 over a b U o = record { from = a; to = b; answer = o; site = U }
 
--- after some messages, one more from the lowest pair, by the same rule
-module _ (R : Meaning) (limit : ℕ) (h : Status) (old : List Answer) (n k : ℕ) (table : List Answer) (T : Site) (c : Carrying R limit h.site old n k table T) (Q : Meaning) (same : Q ≡ R) (a b : ℕ) (low : lowest_pair T.waits ≡ Some (8 * a + b)) (t : b < 8) (U : Site) where
-  longer : (o : Option Answer) → Carries Q limit T (over a b U o) → Chain R limit h.site (c.transfers ++ (over a b U o ∷ [])) U
-  longer o d = chain_more R limit h.site T c.transfers (over a b U o) c.chain low t (subst (λ (M : Meaning). Carries M limit T (over a b U o)) same d)
+-- after some messages, one more from the lowest pair
+module _ (R : Meaning) (limit : ℕ) (S : Site) (old : List Answer) (n k : ℕ) (table : List Answer) (T : Site) (c : Carrying R limit S old n k table T) (a b : ℕ) (low : lowest_pair T.waits ≡ Some (8 * a + b)) (t : b < 8) (U : Site) where
+  longer : (o : Option Answer) → Carries R limit T (over a b U o) → Chain R limit S (c.transfers ++ (over a b U o ∷ [])) U
+  longer o d = chain_more R limit S T c.transfers (over a b U o) c.chain low t d
 
   -- it gives no answer
-  pub carrying-on : Carries Q limit T (over a b U None) → Carrying R limit h.site old (n + 1) k table U
+  pub carrying-on : Carries R limit T (over a b U None) → Carrying R limit S old (n + 1) k table U
   carrying-on d =
       let m = length_push c.transfers (over a b U None) in let e = c.messages_are in
       let v = answers-more c.transfers (over a b U None) ∙ append-nil (answers_in c.transfers) in
@@ -97,12 +95,12 @@ module _ (R : Meaning) (limit : ℕ) (h : Status) (old : List Answer) (n k : ℕ
         table_is = c.table_is ∙ ap (λ (l : List Answer). noted l old) (sym v);
       }
 
-  module _ (v : Answer) (d : Carries Q limit T (over a b U (Some v))) where
+  module _ (v : Answer) (d : Carries R limit T (over a b U (Some v))) where
     more : answers_in (c.transfers ++ (over a b U (Some v) ∷ [])) ≡ answers_in c.transfers ++ (v ∷ [])
     more = answers-more c.transfers (over a b U (Some v))
 
     -- it gives one of the first eight answers
-    pub answering-on : k < 8 → 8 ≤ length old → Carrying R limit h.site old (n + 1) (k + 1) (set table k v) U
+    pub answering-on : k < 8 → 8 ≤ length old → Carrying R limit S old (n + 1) (k + 1) (set table k v) U
     answering-on f room =
         let m = length_push c.transfers (over a b U (Some v)) in let e = c.messages_are in
         let r = c.answers_are in
@@ -120,22 +118,18 @@ module _ (R : Meaning) (limit : ℕ) (h : Status) (old : List Answer) (n k : ℕ
         }
 
     -- it gives a ninth answer
-    settle-ninth : refusal R h (Settle (length old)) ≡ None → 8 ≤ k → (g : Status) → g ≡ opened U → Settles R limit h old (Err Stray) table g
-    settle-ninth fine f g e =
+    carry-ninth : (e : StrayMessage) → 8 ≤ k → AllCarried R limit S old (Err e) table U
+    carry-ninth e f =
         let r = c.answers_are in let s = c.few in let p = length_push (answers_in c.transfers) v in
         let w = ap length more in
         let is = c.table_is ∙ sym (noted-ninth (answers_in c.transfers) old v (omega arith)) ∙ ap (λ (l : List Answer). noted l old) (sym more) in
-        inr (fine, refl, c.transfers ++ (over a b U (Some v) ∷ []), U, U, longer (Some v) d, inr (inr (omega arith), refl), is, e)
+        (c.transfers ++ (over a b U (Some v) ∷ []), U, longer (Some v) d, inr (inr (omega arith), refl), is)
 
-  -- it is stuck, or gives a ninth answer
-  pub settle-ends : h.is_open ≡ true → 8 ≤ length old → (d : Delivery) → Transferred Q limit T a b d U → (d ≡ Carried → ⊥) → ((v : Answer) → d ≡ Answered v → 8 ≤ k) →
-      (g : Status) → g ≡ opened U → Settles R limit h old (Err Stray) table g
-  settle-ends o room Nothing d other ninth g e = absurd (lowest-filled T.waits a b low t d.0)
-  settle-ends o room Carried d other ninth g e = absurd (other refl)
-  settle-ends o room (Answered v) d other ninth g e = settle-ninth v d (allowed R h (length old) o room) (ninth v refl) g e
-  settle-ends o room Astray d other ninth g e =
-      let stuck : Stuck R limit T a b U = subst (λ (M : Meaning). Stuck M limit T a b U) same d in
-      inr (allowed R h (length old) o room, refl, c.transfers, T, U, c.chain, inl (a, b, low, t, stuck), c.table_is, e)
+  -- it gives a ninth answer: a pair that holds a message always gives one, and an answer within the first eight goes on
+  pub carry-ends : (x : CarryAnswer) → Transferred R limit T a b (Ok x) U → (x ≡ Carried → ⊥) → ((v : Answer) → x ≡ Answered v → 8 ≤ k) → (e : StrayMessage) → AllCarried R limit S old (Err e) table U
+  carry-ends Nothing d other ninth e = absurd (lowest-filled T.waits a b low t d.0)
+  carry-ends Carried d other ninth e = absurd (other refl)
+  carry-ends (Answered v) d other ninth e = carry-ninth v d e (ninth v refl)
 
 -- ---- the call, with a part of eight entries for its table
 
@@ -156,10 +150,10 @@ module _ (R : Meaning) (limit : ℕ) (h g : Status) (room m : ℕ) (is : m ≡ m
       let w : List Answer = drop (length v) (take (m - 0) eight) in
       let few = c.few in
       let are = c.answers_are in
-      let gives = ap (λ (n : ℕ). Settled (table ++ rest) s.answers n) (sym c.messages_are) in
+      let gives = ap (λ (n : ℕ). Ok (Settled (record { table = table ++ rest; count = s.answers }) n)) (sym c.messages_are) in
       let whole = ap (λ (l : List Answer). l ++ rest) (c.table_is ∙ noted-all v (take (m - 0) eight) (omega arith)) ∙ append_assoc v w rest in
       let told = ap (take s.answers) whole ∙ take_at v (w ++ rest) s.answers are in
-      inl (c.transfers, obeys _ None refl fine (T, c.chain, none, e, table ++ rest, s.answers, gives, told))
+      inl (c.transfers, obeys _ None refl fine (T, c.chain, none, e, record { table = table ++ rest; count = s.answers }, gives, told))
   settle-served (Err x) table rest (inl (refused, table_is, e)) = inl ([], obeys _ (Some x) refl refused (refl, refl, e))
   settle-served (Err x) table rest (inr (fine, stray, xs, S, T, chain, ends, table_is, e)) =
-      inr ((sym same-refusal ∙ fine, xs, S, T, chain, ends, e), ap Refused stray)
+      inr ((sym same-refusal ∙ fine, xs, S, T, chain, ends, e), ap Err stray)

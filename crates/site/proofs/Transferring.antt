@@ -1,62 +1,27 @@
 -- One message carried: from what the line and the station did to what a transfer is.
-use Rattle.std.proofs.Common.{◌≡◌, ℕ, ◌<◌, Bool, true, false, cond, ◌&&◌, eqb, List, [], ◌∷◌, map, length, get_or, set, Some, None, Option, sym, refl, ap, ◌∙◌, ap₂, arith}
+use Rattle.std.specs.Prelude.{MatchResult}
+use Rattle.std.specs.Result.{result_ok}
+use Rattle.std.proofs.Common.{◌≡◌, ℕ, ◌<◌, Bool, true, false, cond, eqb, List, [], ◌∷◌, map, length, get_or, set, Some, None, Ok, Err, Option, Result, sym, refl, ap, ◌∙◌, subst, ap₂, arith}
 use mathlib.Core.Path.{fun_ext}
-use Rattle.std.proofs.lemmas.Bool.{and_parts, cond_both, eqb-true}
-use Rattle.events.specs.declared.marks.Marks.{Marks}
+use Rattle.std.proofs.lemmas.Bool.{and_parts, eqb-true}
 use Rattle.lines.specs.Lists.{Lists, oldest, same, taken, younger}
 use Rattle.lines.specs.Messages.{reads}
 use Rattle.lines.specs.declared.message.Message.{Message}
 use Rattle.lines.specs.declared.note.Note.{Note}
-use Rattle.lines.specs.declared.note.Note.TheVariants.{Ask, Grant, Settle, Unreadable}
 use Rattle.rules.specs.Rule.{Meaning}
-use Rattle.protocol.specs.Queues.{post_all, queues}
+use Rattle.protocol.specs.Outcomes.{Delivery, astray}
+use Rattle.protocol.specs.Queues.{post_all, queues, room_for}
 use Rattle.protocol.specs.Served.{Stuck}
 use Rattle.protocol.specs.Sites.{Site, moved}
-use Rattle.protocol.specs.Station.{Request, Station as Model, Step, asking, asks, goes_on, granted, had_more, is, missing, owns, put, put_pair, resting, settled, step, strays}
-use Rattle.protocol.specs.Turns.{Carries, answer_of, goes, is_stray}
+use Rattle.protocol.specs.Station.{Step, put_pair, step}
+use Rattle.protocol.specs.Turns.{Carries, answer_of, goes}
 use Rattle.protocol.specs.declared.answer.Answer.{Answer}
-use Rattle.protocol.specs.declared.delivery.Delivery.{Delivery}
-use Rattle.protocol.specs.declared.delivery.Delivery.TheVariants.{Nothing, Carried, Answered, Stray}
 use Rattle.protocol.specs.declared.delivery.Post.{Post}
 use Rattle.stations.specs.Shows.{blank, shows}
+use Rattle.stations.specs.Steps.{Leads}
 use Rattle.stations.specs.declared.station.Station.{Station}
 use Rattle.site.specs.Statuses.{site_of}
-use Rattle.site.specs.Transfers.{Transferred}
-use Rattle.site.proofs.Acting.{Acted, full-goes, full-lists, sent-goes, sent-moved, stray-goes}
-use Rattle.site.proofs.Stationing.{put_same}
-
--- ---- steps: something comes of every message, and a stray one changes nothing
-
-pub record Plain (S : Model) (t : Step) : Type 0 where
-  pub some : t.delivery ≡ Nothing → ⊥
-  pub kept : t.delivery ≡ Stray → (t.station ≡ S) × (t.posts ≡ [])
-
-carried : (S T : Model) (ps : List Post) → Plain S (record { station = T; posts = ps; delivery = Carried })
-carried S T ps = record { some = λ e. grind arith; kept = λ e. absurd (grind arith) }
-
-stray : (S : Model) → Plain S (strays S)
-stray S = record { some = λ e. grind arith; kept = λ e. (refl, refl) }
-
-asks-plain : (S : Model) (a f : ℕ) (o : Option ℕ) → Plain S (asks S a f o)
-asks-plain S a f None = carried S _ _
-asks-plain S a f (Some t) = carried S _ _
-
-goes-plain : (R : Meaning) (S : Model) (e : ℕ) (had : ℕ → Bool) (seen : ℕ → Marks) (o : Option ℕ) → Plain S (goes_on R S e had seen o)
-goes-plain R S e had seen (Some k) = carried S _ _
-goes-plain R S e had seen None = record { some = λ q. grind arith; kept = λ q. absurd (grind arith) }
-
-granted-plain : (R : Meaning) (S : Model) (a f : ℕ) (x : Marks) (q : Request) → Plain S (granted R S a f x q)
-granted-plain R S a f x resting = stray S
-granted-plain R S a f x (asking e had seen) =
-    cond_both (is (missing R e had) f && eqb (R.owner f) a) (goes_on R S e (had_more had f) (put seen f x) (missing R e (had_more had f))) (strays S) (Plain S)
-    (λ _. goes-plain R S e (had_more had f) (put seen f x) (missing R e (had_more had f)))
-    (λ _. stray S)
-
-pub step-plain : (R : Meaning) (b : ℕ) (S : Model) (a : ℕ) (n : Note) → Plain S (step R b S a n)
-step-plain R b S a (Ask f) = cond_both (owns R b f) (asks S a f (S.holder f)) (strays S) (Plain S) (λ _. asks-plain S a f (S.holder f)) (λ _. stray S)
-step-plain R b S a (Grant f x) = granted-plain R S a f x S.request
-step-plain R b S a (Settle e ok) = cond_both (owns R a e) (settled R S a b e ok) (strays S) (Plain S) (λ _. carried S _ _) (λ _. stray S)
-step-plain R b S a Unreadable = stray S
+use Rattle.site.proofs.Acting.{full-goes, leads-at, sent-goes, sent-moved, stray-goes}
 
 -- ---- what is taken from the line
 
@@ -73,78 +38,73 @@ popped W V a b h = fun_ext λ i. fun_ext λ j. at i j (same a b i j) refl ∙ ap
         ap₂ (λ x y. map reads (younger (W x y))) (sym (eqb-true i a p.0)) (sym (eqb-true j b p.1))
     at i j false e = refl
 
+-- a message says what reading it gives, or nothing
+pub says : {E : Type 0} (m : Message) (r : Result Note E) {n : Option Note} → MatchResult r (λ x. reads m ≡ Some x) (λ _. reads m ≡ None) → n ≡ result_ok r → reads m ≡ n
+says m (Ok x) h e = h ∙ sym e
+says m (Err x) h e = h ∙ sym e
+
 -- ---- a transfer
 
--- the oldest message of the pair a, b was taken, which left V, and the station b did its step
-pub record Taken (W V : Lists) (a b : ℕ) (m : Message) (n : Note) : Type 0 where
+-- the oldest message of the pair a, b was taken, which left V
+pub record Taken (W V : Lists) (a b : ℕ) (m : Message) : Type 0 where
   pub oldest_is : Some m ≡ oldest (W a b)
   pub taken_is : (i j : ℕ) → V i j ≡ taken W a b i j
-  pub read_is : n ≡ reads m
 
--- the same, where the numbers of the stations were asked for by calls
-pub taking : {W V : Lists} {a b : ℕ} {m : Message} {n : Note} (from to : ℕ) → from ≡ a → to ≡ b → Some m ≡ oldest (W from to) → ((i j : ℕ) → V i j ≡ taken W from to i j) → n ≡ reads m → Taken W V a b m n
-taking {W} from to x y old took read =
-    record { oldest_is = old ∙ ap₂ (λ i j. oldest (W i j)) x y; taken_is = λ i j. took i j ∙ ap₂ (λ k l. taken W k l i j) x y; read_is = read }
+-- the same, where the numbers of the stations were told by calls
+pub taking : {W V : Lists} {a b : ℕ} {m : Message} {from to : ℕ} → from ≡ a → to ≡ b → Some m ≡ oldest (W from to) → ((i j : ℕ) → V i j ≡ taken W from to i j) → Taken W V a b m
+taking {W} x y old took =
+    record { oldest_is = old ∙ ap₂ (λ i j. oldest (W i j)) x y; taken_is = λ i j. took i j ∙ ap₂ (λ k l. taken W k l i j) x y }
 
-module _ (R : Meaning) (limit : ℕ) (W V U : Lists) (stations : List Station) (a b : ℕ) (m : Message) (n : Note) (s : Station) (d : Delivery) (out : List Post) (sent : Bool)
-    (k : Taken W V a b m n) (h : Acted limit V U b (step R b (shows (get_or stations b blank)) a n) s d out sent) where
+module _ (R : Meaning) (limit : ℕ) {W V : Lists} (stations : List Station) {a b : ℕ} {m : Message} (k : Taken W V a b m) where
   abbrev S : Site
   S = site_of W stations
 
-  abbrev t : Step
-  t = step R b (S.station b) a n
+  abbrev others : List (Option Note)
+  others = map reads (younger (W a b))
 
   -- the queues without the message
-  left_is : queues V ≡ put_pair S.waits a b (map reads (younger (W a b)))
+  left_is : queues V ≡ put_pair S.waits a b others
   left_is = sym (popped W V a b k.taken_is)
 
-  waits-are : S.waits a b ≡ n ∷ map reads (younger (W a b))
-  waits-are = read-oldest (W a b) m k.oldest_is ∙ ap (λ x. x ∷ map reads (younger (W a b))) (sym k.read_is)
+  waits-are : (n : Option Note) → reads m ≡ n → S.waits a b ≡ n ∷ others
+  waits-are n read = read-oldest (W a b) m k.oldest_is ∙ ap (λ x. x ∷ others) read
 
-  stuck : (T : Site) → goes limit (queues V) b t ≡ false → T ≡ record { station = S.station; waits = queues V } → Stuck R limit S a b T
-  stuck T e f =
+  stuck : (n : Option Note) → reads m ≡ n → (U : Lists) → queues U ≡ queues V → goes limit (queues V) b (step R b (S.station b) a n) ≡ false → Stuck R limit S a b (site_of U stations)
+  stuck n read U same unfit =
       record {
         oldest = n;
-        others = map reads (younger (W a b));
-        waits = waits-are;
-        unfit = ap (λ X. goes limit X b t) (sym left_is) ∙ e;
-        left = f ∙ (λ i. record { station = S.station; waits = left_is i });
+        others = others;
+        waits = waits-are n read;
+        unfit = ap (λ X. goes limit X b (step R b (S.station b) a n)) (sym left_is) ∙ unfit;
+        left = λ i. record { station = S.station; waits = (same ∙ left_is) i };
       }
 
-  pub full-stuck : sent ≡ false → Stuck R limit S a b (site_of U stations)
-  full-stuck none =
-      let w = full-lists limit V U b t s d out sent h none in
-      stuck (site_of U stations) (full-goes limit V U b t s d out sent h none) (λ i. record { station = S.station; waits = w i })
+  module _ {n : Option Note} (read : reads m ≡ n) {at : ℕ} (here : at ≡ b) where
+    abbrev act : Step
+    act = step R b (shows (get_or stations at blank)) a n
 
-  module _ (yes : sent ≡ true) (few : b < length stations) where
-    abbrev T : Site
-    T = site_of U (set stations b s)
+    turned : {s : Station} {d : Delivery} {ps : List Post} → Leads s d ps act → Leads s d ps (step R b (S.station b) a n)
+    turned h = leads-at (λ X. step R b X a n) stations here h
 
-    gone : (o : Option Answer) → answer_of d ≡ o → is_stray d ≡ false → Carries R limit S (record { from = a; to = b; answer = o; site = T })
-    gone o p q =
-        record {
-          oldest = n;
-          others = map reads (younger (W a b));
-          waits = waits-are;
-          fits = ap (λ X. goes limit X b t) (sym left_is) ∙ sent-goes limit V U b t s d out sent h yes q;
-          moves = sent-moved limit V U b t s d out sent h yes W stations few ∙ ap (λ X. moved S X b t) left_is;
-          answers = sym p ∙ ap answer_of h.delivery_is;
-        }
+    -- a stray step
+    pub strayed : {s : Station} → Leads s astray [] act → Stuck R limit S a b (site_of V stations)
+    strayed h = stuck n read V refl (stray-goes limit V b (turned h))
 
-    astray : d ≡ Stray → Stuck R limit S a b T
-    unfolding post_all
-    astray e =
-        let same = (step-plain R b (S.station b) a n).kept (sym h.delivery_is ∙ e) in
-        let st = put_same S.station b t.station same.0 in
-        let w = ap (post_all (queues V) b) same.1 in
-        stuck T (stray-goes limit V U b t s d out sent h (ap is_stray e))
-        (sent-moved limit V U b t s d out sent h yes W stations few ∙ (λ i. record { station = st i; waits = w i }))
+    module _ {s : Station} {x : Option Answer} {ps : List Post} (h : Leads s (Ok x) ps act) (U : Lists) where
+      -- a full pair
+      pub full : false ≡ room_for limit (queues V) b ps → queues U ≡ queues V → Stuck R limit S a b (site_of U stations)
+      full none same = stuck n read U same (full-goes limit V b (turned h) none)
 
-    pub transferred : Transferred R limit S a b d T
-    transferred = go d refl
-      where
-        go : (x : Delivery) → d ≡ x → Transferred R limit S a b x T
-        go Nothing e = absurd ((step-plain R b (S.station b) a n).some (sym h.delivery_is ∙ e))
-        go Carried e = gone None (ap answer_of e) (ap is_stray e)
-        go (Answered v) e = gone (Some v) (ap answer_of e) (ap is_stray e)
-        go Stray e = astray e
+      -- it is carried
+      pub gone : true ≡ room_for limit (queues V) b ps → queues U ≡ post_all (queues V) b ps → b < length stations → Carries R limit S (record { from = a; to = b; answer = x; site = site_of U (set stations at s) })
+      gone room lists few =
+          let t = turned h in
+          let carried : Carries R limit S (record { from = a; to = b; answer = x; site = site_of U (set stations b s) }) = record {
+            oldest = n;
+            others = others;
+            waits = waits-are n read;
+            fits = ap (λ X. goes limit X b (step R b (S.station b) a n)) (sym left_is) ∙ sent-goes limit V b t room;
+            moves = sent-moved limit V b t U lists W stations few ∙ ap (λ X. moved S X b (step R b (S.station b) a n)) left_is;
+            answers = ap answer_of t.delivery;
+          } in
+          subst (λ j. Carries R limit S (record { from = a; to = b; answer = x; site = site_of U (set stations j s) })) (sym here) carried

@@ -1,4 +1,5 @@
 pub mod Statuses
+pub mod Replies
 pub mod Outcomes
 pub mod Transfers
 pub mod Settling

@@ -3,7 +3,7 @@ use Rattle.std.specs.Prelude.{◌≡◌}
 use Rattle.lines.specs.declared.line.Line.{Ghosts as LineGhosts}
 use Rattle.protocol.specs.Served.{Served}
 use Rattle.protocol.specs.declared.call.Call.{Call}
-use Rattle.protocol.specs.declared.call.Outcome.{Outcome}
+use Rattle.protocol.specs.Outcomes.{Outcome}
 use Rattle.rules.specs.declared.rule.Rule.{Ghosts as RuleGhosts}
 use Rattle.site.specs.Statuses.{status}
 use Rattle.site.specs.declared.site.Site.{Site}

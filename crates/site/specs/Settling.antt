@@ -5,6 +5,7 @@ use Rattle.protocol.specs.Sites.{Site}
 use Rattle.protocol.specs.Turns.{Chain, Status, Transfer, answers_in, opened, refusal, waiting}
 use Rattle.protocol.specs.declared.answer.Answer.{Answer}
 use Rattle.protocol.specs.declared.call.Call.TheVariants.{Settle}
+use Rattle.protocol.specs.declared.delivery.StrayMessage.{StrayMessage}
 use Rattle.protocol.specs.declared.refusal.Refusal.{Refusal}
 use Rattle.protocol.specs.declared.refusal.Refusal.TheVariants.{Stray}
 use Rattle.rules.specs.Rule.{Meaning}
@@ -22,6 +23,12 @@ pub record Carrying (R : Meaning) (limit : ℕ) (S : Site) (old : List Answer) (
   pub answers_are : length (answers_in transfers) ≡ answers
   pub few : answers ≤ 8
   pub table_is : table ≡ noted (answers_in transfers) old
+
+-- the carries of a settle from S with a table: what it gives, the table and the site as it leaves them
+abbrev pub AllCarried : Meaning → ℕ → Site → List Answer → Result Settlement StrayMessage → List Answer → Site → Type 0
+AllCarried R limit S old (Ok s) table T = Carrying R limit S old s.messages s.answers table T × (waiting T ≡ false)
+AllCarried R limit S old (Err e) table T =
+    (xs : List Transfer) × (U : Site) × Chain R limit S xs U × EndsEarly R limit xs U T × (table ≡ noted (answers_in xs) old)
 
 -- a settle at h with a table: what it gives, the table and the site as it leaves them
 abbrev pub Settles : Meaning → ℕ → Status → List Answer → Result Settlement Refusal → List Answer → Status → Type 0

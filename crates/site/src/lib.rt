@@ -8,3 +8,4 @@ mod requests;
 mod settles;
 pub mod site;
 mod starts;
+mod transfers;

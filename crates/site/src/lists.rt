@@ -1,46 +1,48 @@
 ghost use Rattle.std.specs.Prelude.{◌≡◌, ℕ, ◌<◌};
+ghost use Rattle.lines.specs.Lists.{Lists};
 ghost use Rattle.events.specs.Marks.{marks};
 ghost use Rattle.protocol.specs.Turns.{gathered};
 ghost use Rattle.protocol.specs.declared.call.Call.TheVariants.{Tally, WorkList as AskWorkList};
 ghost use Rattle.site.specs.Outcomes.{listing, tallying};
 ghost use Rattle.site.specs.Served.{CallServed};
-ghost use Rattle.site.specs.Statuses.{site_in};
+ghost use Rattle.site.specs.Statuses.{site_of};
 
+use crate::carries::known;
 use crate::pairs::lowest_pair;
 use crate::site::{Site, WorkList};
 use events::{EventSet, Marking};
 use lines::line::Line;
 use protocol::refusal::Refusal;
 use rules::rule::Rule;
+use stations::role::Role;
+use stations::station::Station;
 use stations::station_id::StationId;
 use tables::table::enabled_events;
 
-impl<R: Rule + Drop, L: Line + Drop> Site<R, L> {
-    // Each event's marks, as its owner has them.
-    fn gathered(&self) -> Marking
-        ensures { (k : ℕ) → k < (R.Rule.meaning self.now.rule).events → marks result k ≡ gathered (R.Rule.meaning self.now.rule) (site_in L.Line self.now) k }
-    {
-        let mut marking = Marking::blank();
-        for number in 0..8u8 {
-            if let Some(me) = StationId::new(number) {
-                marking = self.stations[number as usize].overlay_own(&self.rule, me, marking);
-            }
-        }
-        marking
+// Each event's marks, as its owner has them.
+fn gathered<R: Rule>(rule: &R, stations: &[Station; 8]) -> Marking
+    ensures { (W : Lists) (k : ℕ) → k < (R.Rule.meaning rule.now).events → marks result k ≡ gathered (R.Rule.meaning rule.now) (site_of W stations.now) k }
+{
+    let mut marking = Marking::blank();
+    for me in StationId::all() {
+        marking = stations[usize::from(me)].overlay_own(&Role { rule, me }, marking);
     }
+    marking
+}
 
+impl<R: Rule + Drop, L: Line + Drop> Site<R, L> {
     /// The whole site's enabled and owed events, unless a message waits.
     pub fn work_list(&self) -> Result<WorkList, Refusal>
         requires { L.Line.sound self.now.line }
         ensures { CallServed R.Rule L.Line self.now AskWorkList (listing result) self.now }
     {
-        if !self.started {
+        let Some(stations) = &self.stations else {
             return Err(Refusal::WrongState);
-        }
+        };
         if lowest_pair(&self.line).is_some() {
             return Err(Refusal::MessageWaits);
         }
-        let marking = self.gathered();
+        let marking = gathered(&self.rule, stations);
         Ok(WorkList {
             enabled: enabled_events(&self.rule, &marking),
             owed: marking.owed().common(EventSet::first(self.rule.events())),
@@ -52,10 +54,14 @@ impl<R: Rule + Drop, L: Line + Drop> Site<R, L> {
         requires { L.Line.sound self.now.line }
         ensures { CallServed R.Rule L.Line self.now (Tally station) (tallying result) self.now }
     {
-        if !self.started {
+        let Some(stations) = &self.stations else {
             return Err(Refusal::WrongState);
-        }
-        let me = self.known(station)?;
-        Ok(self.stations[me.number() as usize].own_owed(&self.rule, me))
+        };
+        let me = known(&self.rule, station)?;
+        let role = Role {
+            rule: &self.rule,
+            me,
+        };
+        Ok(stations[usize::from(me)].own_owed(&role))
     }
 }

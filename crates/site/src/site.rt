@@ -1,8 +1,11 @@
-ghost use Rattle.std.specs.Prelude.{◌≡◌, false};
+ghost use Rattle.protocol.specs.declared.call.Reply.TheVariants.{Listed};
+ghost use Rattle.site.specs.Replies.{carry_reply};
+ghost use Rattle.std.specs.Prelude.{◌≡◌, None};
 
 use events::EventSet;
 use lines::line::Line;
 use protocol::answer::Answer;
+use protocol::call::Reply;
 use rules::rule::Rule;
 use stations::station::Station;
 
@@ -11,11 +14,12 @@ use stations::station::Station;
 pub struct Site<R: Rule + Drop, L: Line + Drop> {
     pub(crate) rule: R,
     pub(crate) line: L,
-    pub(crate) started: bool,
-    pub(crate) stations: [Station; 8],
+    // None before the start: the site is closed.
+    pub(crate) stations: Option<[Station; 8]>,
 }
 
 /// What a carry gives.
+// An option of an option of an answer would not say which of the two is missing.
 #[derive(Clone, Copy)]
 pub enum CarryAnswer {
     /// No message waits on the pair.
@@ -23,6 +27,18 @@ pub enum CarryAnswer {
     Carried,
     /// The receiving station answers its request.
     Answered(Answer),
+}
+
+impl From<CarryAnswer> for Reply {
+    ghost from_gives = { λ answer reply. reply ≡ carry_reply answer };
+
+    fn from(answer: CarryAnswer) -> Reply {
+        match answer {
+            CarryAnswer::Nothing => Reply::Nothing,
+            CarryAnswer::Carried => Reply::Carried,
+            CarryAnswer::Answered(answer) => Reply::Answered(answer),
+        }
+    }
 }
 
 /// What a settle gives: how many answers are in the table, and how many messages were carried.
@@ -39,18 +55,28 @@ pub struct WorkList {
     pub owed: EventSet,
 }
 
+impl From<WorkList> for Reply {
+    ghost from_gives = { λ list reply. reply ≡ Listed list.enabled list.owed };
+
+    fn from(list: WorkList) -> Reply {
+        Reply::Listed {
+            enabled: list.enabled,
+            owed: list.owed,
+        }
+    }
+}
+
 impl<R: Rule + Drop, L: Line + Drop> Site<R, L> {
-    /// A closed site.
+    /// A closed site. It takes every line: each call requires a sound one.
     pub fn new(rule: R, line: L) -> Site<R, L>
         ensures rule { result.rule ≡ rule }
         ensures line { result.line ≡ line }
-        ensures closed { result.started ≡ false }
+        ensures closed { result.stations ≡ None }
     {
         Site {
             rule,
             line,
-            started: false,
-            stations: [Station::blank(); 8],
+            stations: None,
         }
     }
 }

@@ -1,4 +1,4 @@
-ghost use Rattle.std.specs.Prelude.{◌≡◌, ℕ, slice_index_or};
+ghost use Rattle.std.specs.Prelude.{◌≡◌, ℕ, ◌<◌, length, slice_index_or};
 ghost use Rattle.protocol.specs.Station.{fresh};
 ghost use Rattle.protocol.specs.declared.call.Call.TheVariants.{Start};
 ghost use Rattle.site.specs.Outcomes.{starting};
@@ -10,20 +10,20 @@ use crate::site::Site;
 use lines::line::Line;
 use protocol::refusal::Refusal;
 use rules::rule::Rule;
+use stations::role::Role;
 use stations::station::Station;
 use stations::station_id::StationId;
 
 // Every station as it is at the start.
 fn fresh_stations<R: Rule>(rule: &R) -> [Station; 8]
-    ensures { (k : ℕ) → shows (slice_index_or result k blank) ≡ fresh (R.Rule.meaning rule.now) k }
+    ensures long { length result ≡ 8 }
+    ensures each { (k : ℕ) → k < 8 → shows (slice_index_or result k blank) ≡ fresh (R.Rule.meaning rule.now) k }
 {
-    let mut stations = [Station::blank(); 8];
-    for number in 0..8u8 {
-        if let Some(me) = StationId::new(number) {
-            stations[number as usize] = Station::fresh(rule, me);
-        }
-    }
-    stations
+    StationId::all().map(
+        |me|
+            ensures { shows result ≡ fresh (R.Rule.meaning rule.entry.now) me }
+        { Station::fresh(&Role { rule, me }) },
+    )
 }
 
 impl<R: Rule + Drop, L: Line + Drop> Site<R, L> {
@@ -32,11 +32,10 @@ impl<R: Rule + Drop, L: Line + Drop> Site<R, L> {
         requires { L.Line.sound self.old.line }
         ensures { CallServed R.Rule L.Line self.old Start (starting result) self.new }
     {
-        if self.started || lowest_pair(&self.line).is_some() {
+        if self.stations.is_some() || lowest_pair(&self.line).is_some() {
             return Err(Refusal::WrongState);
         }
-        self.stations = fresh_stations(&self.rule);
-        self.started = true;
+        self.stations = Some(fresh_stations(&self.rule));
         Ok(())
     }
 }

@@ -1,12 +1,12 @@
 -- The worked cases of sites. A case joins the table as one row more.
-use Rattle.std.specs.Prelude.{ℕ, List, [], ◌∷◌, length}
+use Rattle.std.specs.Prelude.{ℕ, List, [], ◌∷◌, Ok, Err}
 use Rattle.std.specs.List.{AllByRecursion}
 use Rattle.graph.specs.declared.kind.Kind.TheVariants.{Condition, Response}
 use Rattle.graph.specs.Content.{Content}
 use Rattle.protocol.specs.declared.answer.Answer.{Answer}
 use Rattle.protocol.specs.declared.call.Call.TheVariants.{Start, Request, Carry, Settle, WorkList}
-use Rattle.protocol.specs.declared.call.Outcome.{Outcome}
-use Rattle.protocol.specs.declared.call.Outcome.TheVariants.{Refused, Started, Opened, Carried, Settled, Listed}
+use Rattle.protocol.specs.declared.call.Reply.TheVariants.{Started, Opened, Carried, Settled, Listed}
+use Rattle.protocol.specs.Outcomes.{Outcome, all_of}
 use Rattle.protocol.specs.declared.refusal.Refusal.TheVariants.{UnknownStation, UnknownEvent, OtherOwner, RequestOpen}
 use Rattle.rules.specs.declared.decision.Decision.TheVariants.{Accepted, Unmet}
 use Rattle.cases.specs.Rows.{relation}
@@ -23,20 +23,20 @@ abbrev pub unmet_by : ℕ → ℕ → Answer
 unmet_by k e = record { event = e; decision = Unmet k }
 
 abbrev pub settled : List Answer → ℕ → Outcome
-settled answers messages = Settled answers (length answers) messages
+settled answers messages = Ok (Settled (all_of answers) messages)
 
 abbrev pub rows : List Row
 rows =
     -- a site: event 1 is refused 22 naming 0, for 6 messages; then 0 is done for 6; enabled are 0 and 1, owed is 1
     site chained (Start ∷ Request 1 1 ∷ Settle 8 ∷ Request 0 0 ∷ Settle 8 ∷ WorkList ∷ [])
-    (Started ∷ Opened ∷ settled (unmet_by 0 1 ∷ []) 6 ∷ Opened ∷ settled (done 0 ∷ []) 6 ∷ Listed (record { bits = 3 }) (record { bits = 2 }) ∷ [])
+    (Ok Started ∷ Ok Opened ∷ settled (unmet_by 0 1 ∷ []) 6 ∷ Ok Opened ∷ settled (done 0 ∷ []) 6 ∷ Ok (Listed (record { bits = 3 }) (record { bits = 2 })) ∷ [])
     -- two requests, of which the later is carried first: it is refused, and the earlier one is done
-    ∷ site chained (Start ∷ Request 0 0 ∷ Request 1 1 ∷ Carry 1 0 ∷ Settle 8 ∷ []) (Started ∷ Opened ∷ Opened ∷ Carried ∷ settled (unmet_by 0 1 ∷ done 0 ∷ []) 11 ∷ [])
+    ∷ site chained (Start ∷ Request 0 0 ∷ Request 1 1 ∷ Carry 1 0 ∷ Settle 8 ∷ []) (Ok Started ∷ Ok Opened ∷ Ok Opened ∷ Ok Carried ∷ settled (unmet_by 0 1 ∷ done 0 ∷ []) 11 ∷ [])
     -- the same with the earlier one carried first: both are done
-    ∷ site chained (Start ∷ Request 0 0 ∷ Request 1 1 ∷ Carry 0 0 ∷ Settle 8 ∷ []) (Started ∷ Opened ∷ Opened ∷ Carried ∷ settled (done 0 ∷ done 1 ∷ []) 11 ∷ [])
+    ∷ site chained (Start ∷ Request 0 0 ∷ Request 1 1 ∷ Carry 0 0 ∷ Settle 8 ∷ []) (Ok Started ∷ Ok Opened ∷ Ok Opened ∷ Ok Carried ∷ settled (done 0 ∷ done 1 ∷ []) 11 ∷ [])
     -- requests that are refused 8, 9 and 10, and 11 after one is open
     ∷ site chained (Start ∷ Request 5 0 ∷ Request 0 9 ∷ Request 0 1 ∷ Request 0 0 ∷ Request 0 2 ∷ [])
-    (Started ∷ Refused UnknownStation ∷ Refused UnknownEvent ∷ Refused OtherOwner ∷ Opened ∷ Refused RequestOpen ∷ [])
+    (Ok Started ∷ Err UnknownStation ∷ Err UnknownEvent ∷ Err OtherOwner ∷ Ok Opened ∷ Err RequestOpen ∷ [])
     ∷ []
 
 abbrev pub SiteCases : Type 0

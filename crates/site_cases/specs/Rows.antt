@@ -5,7 +5,7 @@ use Rattle.graph.specs.declared.release.Release.TheVariants.{Six}
 use Rattle.graph.specs.Content.{Content}
 use Rattle.protocol.specs.Play.{new_site, plays}
 use Rattle.protocol.specs.declared.call.Call.{Call}
-use Rattle.protocol.specs.declared.call.Outcome.{Outcome}
+use Rattle.protocol.specs.Outcomes.{Outcome}
 use Rattle.rules.specs.Semantics.{meant}
 use Rattle.cases.specs.Rows.{marks_of}
 

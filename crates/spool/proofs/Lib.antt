@@ -1,5 +1,5 @@
+pub mod Parts
 pub mod Slots
-pub mod Writes
 pub mod Pushing
 pub mod Popping
 pub mod Exactness

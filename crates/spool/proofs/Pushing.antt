@@ -1,66 +1,49 @@
 -- The bytes of a pair after a message was put at its end.
-use Rattle.std.proofs.Common.{◌≡◌, ℕ, ◌+◌, ◌*◌, ◌<◌, ◌≤◌, ◌⊎◌, List, [], ◌∷◌, ◌++◌, length, get_or, set, ap, ◌∙◌, ap₂, inl, inr, arith, length-set, get_or-set_other, get_or-set_same}
+use Rattle.std.proofs.Common.{◌≡◌, ℕ, ◌+◌, ◌*◌, ◌<◌, ◌≤◌, ◌⊎◌, List, [], ◌∷◌, ◌++◌, length, get_or, set, ap, ◌∙◌, ap₂, sym, inl, inr, zero-add, arith, get_or-set_other, get_or-set_same}
 use Rattle.lines.specs.declared.message.Message.{Message}
 use Rattle.spool.specs.Slots.{Slot, message_at, messages, slot_at}
+use Rattle.spool.proofs.Parts.{after-part, before-part, length-put, within-part}
 use Rattle.spool.proofs.Slots.{message-eq, messages-moved, messages-more}
-use Rattle.spool.proofs.Writes.{four-other}
+use borrow.Rule.Slice.PartMut.{put_mid}
 
--- the bytes after a message was put at the end of the pair at i
-abbrev pub posted : List ℕ → ℕ → Message → List ℕ
-posted bs i m =
-    let n = get_or bs i 0 in
-    let to = i + 1 + 3 * n in
-    set (set (set (set bs to m.kind) (to + 1) m.event) (to + 2) m.extra) i (n + 1)
+-- the count is one more, the message stands after the others, and the other bytes are as they were
+pub record Pushed (old new : List ℕ) (m : Message) : Type 0 where
+  pub count : get_or new 0 0 ≡ get_or old 0 0 + 1
+  pub last : message_at new (1 + 3 * get_or old 0 0) ≡ m
+  pub others : (k : ℕ) → 1 ≤ k → (k < 1 + 3 * get_or old 0 0) ⊎ (4 + 3 * get_or old 0 0 ≤ k) → get_or new k 0 ≡ get_or old k 0
 
-posted-other : (bs : List ℕ) (i : ℕ) (m : Message) (k : ℕ) → (k ≡ i → ⊥) → (k < i + 1 + 3 * get_or bs i 0) ⊎ (i + 4 + 3 * get_or bs i 0 ≤ k) → get_or (posted bs i m) k 0 ≡ get_or bs k 0
-posted-other bs i m k n o =
-    let to = i + 1 + 3 * get_or bs i 0 in
-    four-other bs to (to + 1) (to + 2) i m.kind m.event m.extra (get_or bs i 0 + 1) k
-    (λ e. elim o [ inl x ↦ omega arith | inr x ↦ omega arith ])
-    (λ e. elim o [ inl x ↦ omega arith | inr x ↦ omega arith ])
-    (λ e. elim o [ inl x ↦ omega arith | inr x ↦ omega arith ])
-    n
-
-pub posted-outside : (bs : List ℕ) (i : ℕ) (m : Message) (k : ℕ) → get_or bs i 0 < 4 → (k < i) ⊎ (i + 13 ≤ k) → get_or (posted bs i m) k 0 ≡ get_or bs k 0
-posted-outside bs i m k h o =
-    elim o [
-      | inl x ↦ posted-other bs i m k (λ e. omega arith) (inl (omega arith))
-      | inr x ↦ posted-other bs i m k (λ e. omega arith) (inr (omega arith))
-    ]
-
-posted-count : (bs : List ℕ) (i : ℕ) (m : Message) → i < length bs → get_or (posted bs i m) i 0 ≡ get_or bs i 0 + 1
-posted-count bs i m l =
-    let to = i + 1 + 3 * get_or bs i 0 in
-    let s : length (set (set (set bs to m.kind) (to + 1) m.event) (to + 2) m.extra) ≡ length bs = simp length-set in
-    get_or-set_same (set (set (set bs to m.kind) (to + 1) m.event) (to + 2) m.extra) i (get_or bs i 0 + 1) 0 (omega arith)
-
-posted-message : (bs : List ℕ) (i : ℕ) (m : Message) → i + 13 ≤ length bs → get_or bs i 0 < 4 → message_at (posted bs i m) (i + 1 + 3 * get_or bs i 0) ≡ m
-posted-message bs i m l h =
-    let to = i + 1 + 3 * get_or bs i 0 in
-    let b1 = set bs to m.kind in
-    let b2 = set b1 (to + 1) m.event in
-    let b3 = set b2 (to + 2) m.extra in
-    let n = get_or bs i 0 + 1 in
-    let l1 : length b1 ≡ length bs = simp length-set in
-    let l2 : length b2 ≡ length bs = simp length-set in
-    message-eq
-    (get_or-set_other b3 i to n 0 (λ e. omega arith) ∙ get_or-set_other b2 (to + 2) to m.extra 0 (λ e. omega arith) ∙ get_or-set_other b1 (to + 1) to m.event 0 (λ e. omega arith) ∙ get_or-set_same bs to m.kind 0 (omega arith))
-    (get_or-set_other b3 i (to + 1) n 0 (λ e. omega arith) ∙ get_or-set_other b2 (to + 2) (to + 1) m.extra 0 (λ e. omega arith) ∙ get_or-set_same b1 (to + 1) m.event 0 (omega arith))
-    (get_or-set_other b3 i (to + 2) n 0 (λ e. omega arith) ∙ get_or-set_same b2 (to + 2) m.extra 0 (omega arith))
-
-pub posted-slot : (bs : List ℕ) (i : ℕ) (m : Message) → i + 13 ≤ length bs → get_or bs i 0 < 4 → slot_at (posted bs i m) i ≡ slot_at bs i ++ m ∷ []
-posted-slot bs i m l h =
-    let n = get_or bs i 0 in
-    let cs = posted bs i m in
-    ap (λ x. messages x cs (i + 1)) (posted-count bs i m (omega arith)) ∙ messages-more n cs (i + 1)
-    ∙ ap₂ (λ x y. x ++ y ∷ [])
-    (messages-moved n cs bs (i + 1) (i + 1) (λ k g. posted-other bs i m (i + 1 + k) (λ e. omega arith) (inl (omega arith))))
-    (posted-message bs i m l h)
-
-pub posted-laid : (bs : List ℕ) (i : ℕ) (m : Message) → i + 13 ≤ length bs → get_or bs i 0 < 4 → Slot bs i → Slot (posted bs i m) i
-posted-laid bs i m l h s =
-    let e = posted-count bs i m (omega arith) in
+-- the three bytes after the others are those of m
+pub pushed : (old : List ℕ) (n : ℕ) (ys : List ℕ) (m : Message) → length old ≡ 13 → get_or old 0 0 < 4 → n ≡ 3 → ys ≡ m.kind ∷ m.event ∷ m.extra ∷ []
+    → Pushed old (set (put_mid (1 + 3 * get_or old 0 0) n old ys) 0 (get_or old 0 0 + 1)) m
+pushed old n ys m l f three e =
+    let c = get_or old 0 0 in
+    let a = 1 + 3 * c in
+    let new = put_mid a n old ys in
+    let long : length ys ≡ n = ap length e ∙ sym three in
+    let all = length-put a n old ys (omega arith) long in
+    let byte : (j : ℕ) → j < 3 → get_or (set new 0 (c + 1)) (a + j) 0 ≡ get_or (m.kind ∷ m.event ∷ m.extra ∷ []) j 0 =
+    λ j h. get_or-set_other new 0 (a + j) (c + 1) 0 (λ q. omega arith) ∙ within-part a n old ys (a + j) (omega arith) long (omega arith) (omega arith)
+    ∙ ap₂ (λ l x. get_or l x 0) e (omega arith) in
     record {
-      few = omega arith;
-      zeros = λ k g f. posted-other bs i m (i + k) (λ q. omega arith) (inr (omega arith)) ∙ s.zeros k (omega arith) f;
+      count = get_or-set_same new 0 (c + 1) 0 (omega arith);
+      last = message-eq (ap (λ x. get_or (set new 0 (c + 1)) x 0) (omega arith) ∙ byte 0 (omega arith)) (byte 1 (omega arith)) (byte 2 (omega arith));
+      others = λ k g o. get_or-set_other new 0 k (c + 1) 0 (λ q. omega arith)
+          ∙ elim o [
+            | inl x ↦ before-part a n old ys k (omega arith) x
+            | inr x ↦ after-part a n old ys k (omega arith) long (omega arith)
+          ];
     }
+
+module _ (old new : List ℕ) (m : Message) (p : Pushed old new m) where
+  pub pushed-slot : slot_at new 0 ≡ slot_at old 0 ++ m ∷ []
+  pushed-slot =
+      let n = get_or old 0 0 in
+      ap (λ x. messages x new 1) p.count ∙ messages-more n new 1
+      ∙ ap₂ (λ x y. x ++ y ∷ [])
+      (messages-moved n new old 1 1 (λ k h. p.others (1 + k) (omega arith) (inl (omega arith))))
+      p.last
+
+  pub pushed-laid : get_or old 0 0 < 4 → Slot old 0 → Slot new 0
+  pushed-laid l s =
+      let c = p.count in
+      record { few = omega arith; zeros = λ k g h. ap (λ y. get_or new y 0) (zero-add k) ∙ p.others k (omega arith) (inr (omega arith)) ∙ ap (λ y. get_or old y 0) (sym (zero-add k)) ∙ s.zeros k (omega arith) h }

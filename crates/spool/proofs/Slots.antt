@@ -1,9 +1,12 @@
 -- The bytes of pairs: what they say, and that a change of one pair leaves the others.
-use Rattle.std.proofs.Common.{◌≡◌, ℕ, zero, suc, ◌+◌, ◌*◌, ◌<◌, ◌≤◌, Bool, true, false, cond, ◌⊎◌, List, [], ◌∷◌, ◌++◌, length, get_or, sym, refl, ap, ◌∙◌, subst, ap₂, inl, inr, add-zero, arith}
+use Rattle.std.proofs.Common.{◌≡◌, ℕ, zero, suc, ◌+◌, ◌*◌, ◌<◌, ◌≤◌, Bool, true, false, cond, ◌⊎◌, List, [], ◌∷◌, ◌++◌, length, get_or, take, drop, sym, refl, ap, ◌∙◌, subst, ap₂, inl, inr, add-zero, arith}
 use Rattle.std.proofs.lemmas.Bool.{cases_eq, cases_lt}
+use Rattle.std.proofs.lemmas.List.{places}
+use borrow.Rule.Slice.PartMut.{put_mid}
 use Rattle.lines.proofs.Placing.{Elsewhere, stations}
 use Rattle.lines.specs.Lists.{inside}
 use Rattle.lines.specs.declared.message.Message.{Message}
+use Rattle.spool.proofs.Parts.{after-part, before-part, length-put, within-part}
 use Rattle.spool.specs.Slots.{Cleared, Laid, SameAround, SameBeyond, Slot, message_at, messages, slot_at, slots, spooled}
 
 pub length-messages : (n : ℕ) (bs : List ℕ) (i : ℕ) → length (messages n bs i) ≡ n
@@ -31,40 +34,95 @@ messages-more (suc n) bs i =
     ap (λ x. messages x bs i) e
     ∙ ap (λ l. message_at bs i ∷ l) (messages-more n bs (i + 3) ∙ ap (λ x. messages n bs (i + 3) ++ message_at bs x ∷ []) (omega arith))
 
-pub slot_kept : (bs cs : List ℕ) (i : ℕ) → get_or bs i 0 ≤ 4 → ((k : ℕ) → i ≤ k → k < i + 13 → get_or cs k 0 ≡ get_or bs k 0) → slot_at cs i ≡ slot_at bs i
-slot_kept bs cs i f h =
-    let e = h i (omega arith) (omega arith) in
-    messages-moved (get_or cs i 0) cs bs (i + 1) (i + 1) (λ k l. h (i + 1 + k) (omega arith) (omega arith))
-    ∙ ap (λ n. messages n bs (i + 1)) (h i (omega arith) (omega arith))
+-- the 13 bytes from j are those that stand from i
+abbrev pub Alike : List ℕ → ℕ → List ℕ → ℕ → Type 0
+Alike bs i cs j = (k : ℕ) → k < 13 → get_or cs (j + k) 0 ≡ get_or bs (i + k) 0
+
+-- such a pair has the same messages and keeps its layout
+module _ (bs cs : List ℕ) (i j : ℕ) (h : Alike bs i cs j) where
+  count_same : get_or cs j 0 ≡ get_or bs i 0
+  count_same = ap (λ x. get_or cs x 0) (sym (add-zero j)) ∙ h 0 (omega arith) ∙ ap (λ x. get_or bs x 0) (add-zero i)
+
+  pub slot_kept : get_or bs i 0 ≤ 4 → slot_at cs j ≡ slot_at bs i
+  slot_kept f =
+      let e = count_same in
+      messages-moved (get_or cs j 0) cs bs (j + 1) (i + 1)
+      (λ k l. ap (λ x. get_or cs x 0) (omega arith) ∙ h (1 + k) (omega arith) ∙ ap (λ x. get_or bs x 0) (omega arith))
+      ∙ ap (λ n. messages n bs (i + 1)) e
+
+  pub slot_same : Slot bs i → Slot cs j
+  slot_same s =
+      let e = count_same in
+      record { few = omega (arith, s.few); zeros = λ k l m. h k m ∙ s.zeros k (omega arith) m }
 
 -- another pair's bytes lie outside those of the pair p
-pub far : (q p k : ℕ) → 13 * q ≤ k → k < 13 * q + 13 → (q ≡ p → ⊥) → (k < 13 * p) ⊎ (13 * p + 13 ≤ k)
-far q p k l m n = elim (cases_lt q p) [ inl x ↦ inl (omega arith) | inr x ↦ inr (omega arith) ]
+pub far : (q p k : ℕ) → k < 13 → (q ≡ p → ⊥) → (13 * q + k < 13 * p) ⊎ (13 * p + 13 ≤ 13 * q + k)
+far q p k l n = elim (cases_lt q p) [ inl x ↦ inl (omega arith) | inr x ↦ inr (omega arith) ]
 
--- a pair's bytes as they were keep their layout
-slot_same : (bs cs : List ℕ) (i : ℕ) → ((k : ℕ) → i ≤ k → k < i + 13 → get_or cs k 0 ≡ get_or bs k 0) → Slot bs i → Slot cs i
-slot_same bs cs i h s =
-    let e = h i (omega arith) (omega arith) in
-    record {
-      few = omega (arith, s.few);
-      zeros = λ k l m. h (i + k) (omega arith) (omega arith) ∙ s.zeros k (omega arith) m;
-    }
+-- a change within the 13 bytes of the pair p
+module _ (bs cs : List ℕ) (p : ℕ) (h : SameAround (13 * p) bs cs) where
+  laid_kept : p < 64 → Laid bs → length cs ≡ length bs → Slot cs (13 * p) → Laid cs
+  laid_kept l s n t =
+      record {
+        room = omega (arith, s.room);
+        slots = λ q m. elim (cases_eq q p) [
+          | inl e ↦ subst (λ x. Slot cs (13 * x)) (sym e) t
+          | inr d ↦ slot_same bs cs (13 * q) (13 * q) (λ k f. h (13 * q + k) (far q p k f d)) (s.slots q m)
+        ];
+      }
 
-pub laid_kept : (bs cs : List ℕ) (p : ℕ) → p < 64 → Laid bs → length cs ≡ length bs → SameAround (13 * p) bs cs → Slot cs (13 * p) → Laid cs
-laid_kept bs cs p l s n h t =
-    record {
-      room = omega (arith, s.room);
-      slots = λ q m. elim (cases_eq q p) [
-        | inl e ↦ subst (λ x. Slot cs (13 * x)) (sym e) t
-        | inr d ↦ slot_same bs cs (13 * q) (λ k f g. h k (far q p k f g d)) (s.slots q m)
-      ];
-    }
+  beyond-kept : p < 64 → SameBeyond bs cs
+  beyond-kept l k m = h k (inr (omega arith))
 
-pub beyond-kept : (bs cs : List ℕ) (p : ℕ) → p < 64 → SameAround (13 * p) bs cs → SameBeyond bs cs
-beyond-kept bs cs p l h k m = h k (inr (omega arith))
+  elsewhere : Laid bs → Elsewhere (slots bs) (slots cs) p
+  elsewhere s q l n = slot_kept bs cs (13 * q) (13 * q) (λ k f. h (13 * q + k) (far q p k f n)) (s.slots q l).few
 
-pub elsewhere : (bs cs : List ℕ) (p : ℕ) → Laid bs → SameAround (13 * p) bs cs → Elsewhere (slots bs) (slots cs) p
-elsewhere bs cs p s h q l n = slot_kept bs cs (13 * q) (s.slots q l).few (λ k f g. h k (far q p k f g n))
+-- ---- the 13 bytes of the pair p as a slice of their own, n of them, and what is written there
+
+module _ (bs : List ℕ) (p n : ℕ) (s : Laid bs) (l : p < 64) (e : n ≡ 13) where
+  alike : Alike bs (13 * p) (take n (drop (13 * p) bs)) 0
+  alike k h = let r = s.room in grind (arith, places)
+
+  pub length-part : length (take n (drop (13 * p) bs)) ≡ 13
+  length-part = let r = s.room in grind (arith, places)
+
+  pub part_laid : Slot (take n (drop (13 * p) bs)) 0
+  part_laid = slot_same bs (take n (drop (13 * p) bs)) (13 * p) 0 alike (s.slots p l)
+
+  pub part_kept : slot_at (take n (drop (13 * p) bs)) 0 ≡ slots bs p
+  part_kept = slot_kept bs (take n (drop (13 * p) bs)) (13 * p) 0 alike (s.slots p l).few
+
+  module _ (cs : List ℕ) (m : length cs ≡ length (take n (drop (13 * p) bs))) (t : Slot cs 0) where
+    long : length cs ≡ n
+    long = m ∙ length-part ∙ sym e
+
+    around : SameAround (13 * p) bs (put_mid (13 * p) n bs cs)
+    around k o =
+        let r = s.room in
+        elim o [
+          | inl x ↦ before-part (13 * p) n bs cs k (omega arith) x
+          | inr x ↦ after-part (13 * p) n bs cs k (omega arith) long (omega arith)
+        ]
+
+    put-alike : Alike cs 0 (put_mid (13 * p) n bs cs) (13 * p)
+    put-alike k h =
+        let r = s.room in
+        within-part (13 * p) n bs cs (13 * p + k) (omega arith) long (omega arith) (omega arith) ∙ ap (λ x. get_or cs x 0) (omega arith)
+
+    pub put-laid : Laid (put_mid (13 * p) n bs cs)
+    put-laid =
+        let r = s.room in
+        laid_kept bs (put_mid (13 * p) n bs cs) p around l s (length-put (13 * p) n bs cs (omega arith) long)
+        (slot_same cs (put_mid (13 * p) n bs cs) 0 (13 * p) put-alike t)
+
+    pub put-beyond : SameBeyond bs (put_mid (13 * p) n bs cs)
+    put-beyond = beyond-kept bs (put_mid (13 * p) n bs cs) p around l
+
+    pub put-elsewhere : Elsewhere (slots bs) (slots (put_mid (13 * p) n bs cs)) p
+    put-elsewhere = elsewhere bs (put_mid (13 * p) n bs cs) p around s
+
+    pub put-list : slots (put_mid (13 * p) n bs cs) p ≡ slot_at cs 0
+    put-list = slot_kept cs (put_mid (13 * p) n bs cs) 0 (13 * p) put-alike t.few
 
 -- ---- cleared memory
 

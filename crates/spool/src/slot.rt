@@ -1,7 +1,7 @@
 // The 13 bytes of one pair: its count, its messages oldest first, and zeros.
-ghost use Rattle.std.specs.Prelude.{◌≡◌, ◌+◌, ◌≤◌, [], ◌∷◌, ◌++◌, length, is_ok, if◌then◌else◌, nat_lt};
+ghost use Rattle.std.specs.Prelude.{◌≡◌, ◌≤◌, [], ◌∷◌, ◌++◌, length, is_ok, if◌then◌else◌, nat_lt};
 ghost use Rattle.lines.specs.Lists.{oldest, younger};
-ghost use Rattle.spool.specs.Slots.{Cleared, SameAround, SameBeyond, Slot, slot_at};
+ghost use Rattle.spool.specs.Slots.{Cleared, SameBeyond, Slot, slot_at};
 
 use crate::spool::SIZE;
 use lines::line::Full;
@@ -13,53 +13,44 @@ pub(crate) fn clear(bytes: &mut [u8])
     ensures cleared { Cleared bytes.new }
     ensures beyond { SameBeyond bytes.old bytes.new }
 {
-    for i in 0..SIZE {
-        bytes[i] = 0;
-    }
+    bytes[..SIZE].fill(0);
 }
 
-// Puts a message at the end of the pair that starts at `at`.
-pub(crate) fn push(bytes: &mut [u8], at: usize, message: Message) -> Result<(), Full>
-    requires { (at + 13 ≤ length bytes.old) × (Slot bytes.old at) }
-    ensures answer { is_ok result ≡ nat_lt (length (slot_at bytes.old at)) 4 }
-    ensures list { slot_at bytes.new at ≡ (if nat_lt (length (slot_at bytes.old at)) 4 then slot_at bytes.old at ++ message ∷ [] else slot_at bytes.old at) }
-    ensures slot { Slot bytes.new at }
-    ensures around { SameAround at bytes.old bytes.new }
+// Puts a message at the end of a pair.
+pub(crate) fn push(slot: &mut [u8], message: Message) -> Result<(), Full>
+    requires { (length slot.old ≡ 13) × Slot slot.old 0 }
+    ensures answer { is_ok result ≡ nat_lt (length (slot_at slot.old 0)) 4 }
+    ensures list { slot_at slot.new 0 ≡ (if nat_lt (length (slot_at slot.old 0)) 4 then slot_at slot.old 0 ++ message ∷ [] else slot_at slot.old 0) }
+    ensures slot { Slot slot.new 0 }
 {
-    let count = bytes[at];
+    let count = slot[0];
     if count >= 4 {
         return Err(Full);
     }
-    let end = at + 1 + 3 * count as usize;
-    bytes[end] = message.kind;
-    bytes[end + 1] = message.event;
-    bytes[end + 2] = message.extra;
-    bytes[at] = count + 1;
+    let end = 1 + 3 * count as usize;
+    slot[end..end + 3].copy_from_slice(&[message.kind, message.event, message.extra]);
+    slot[0] = count + 1;
     Ok(())
 }
 
-// Takes the oldest message of the pair that starts at `at`.
-pub(crate) fn pop(bytes: &mut [u8], at: usize) -> Option<Message>
-    requires { (at + 13 ≤ length bytes.old) × (Slot bytes.old at) }
-    ensures answer { result ≡ oldest (slot_at bytes.old at) }
-    ensures list { slot_at bytes.new at ≡ younger (slot_at bytes.old at) }
-    ensures slot { Slot bytes.new at }
-    ensures around { SameAround at bytes.old bytes.new }
+// Takes the oldest message of a pair.
+pub(crate) fn pop(slot: &mut [u8]) -> Option<Message>
+    requires { (length slot.old ≡ 13) × Slot slot.old 0 }
+    ensures answer { result ≡ oldest (slot_at slot.old 0) }
+    ensures list { slot_at slot.new 0 ≡ younger (slot_at slot.old 0) }
+    ensures slot { Slot slot.new 0 }
 {
-    let count = bytes[at];
+    let count = slot[0];
     if count == 0 {
         return None;
     }
-    let kind = bytes[at + 1];
-    let event = bytes[at + 2];
-    let extra = bytes[at + 3];
-    for k in at + 1..at + 10 {
-        let moved = bytes[k + 3];
-        bytes[k] = moved;
-    }
-    bytes[at + 10] = 0;
-    bytes[at + 11] = 0;
-    bytes[at + 12] = 0;
-    bytes[at] = count - 1;
-    Some(Message { kind, event, extra })
+    let oldest = Message {
+        kind: slot[1],
+        event: slot[2],
+        extra: slot[3],
+    };
+    slot.copy_within(4.., 1);
+    slot[10..].fill(0);
+    slot[0] = count - 1;
+    Some(oldest)
 }

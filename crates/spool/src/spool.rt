@@ -15,11 +15,11 @@ pub const SIZE: usize = 832;
 #[derive(Clone, Copy)]
 pub struct ShortMemory;
 
-impl ShortMemory {
+impl From<ShortMemory> for u8 {
+    ghost from_gives = { λ refusal number. number ≡ memory_number refusal };
+
     /// The number of the refusal.
-    pub fn number(self) -> u8
-        ensures { result ≡ memory_number self }
-    {
+    fn from(_: ShortMemory) -> u8 {
         16
     }
 }
@@ -67,34 +67,30 @@ impl<'a> Line for Spool<'a> {
 
     ghost most = { 4 };
 
-    ghost enough = { lit≤ tt };
-
-    ghost outside = { λ s. none-outside (slots s.bytes.now) };
-
     fn limit(&self) -> usize {
         4
     }
 
     fn count(&self, from: u8, to: u8) -> usize {
         match place(from, to) {
-            Some(p) => self.bytes[13 * p] as usize,
+            Some(pair) => self.bytes[13 * pair] as usize,
             None => 0,
         }
     }
 
     fn post(&mut self, from: u8, to: u8, message: Message) -> Result<(), Full> {
-        match place(from, to) {
-            Some(p) => slot::push(self.bytes, 13 * p, message),
-            None => Err(Full),
-        }
+        let pair = place(from, to).ok_or(Full)?;
+        slot::push(&mut self.bytes[13 * pair..13 * pair + 13], message)
     }
 
     fn take(&mut self, from: u8, to: u8) -> Option<Message> {
-        match place(from, to) {
-            Some(p) => slot::pop(self.bytes, 13 * p),
-            None => None,
-        }
+        let pair = place(from, to)?;
+        slot::pop(&mut self.bytes[13 * pair..13 * pair + 13])
     }
+
+    ghost enough = { lit≤ tt };
+
+    ghost outside = { λ s. none-outside (slots s.bytes.now) };
 }
 
 /// The bytes of each pair are exactly its list in the layout of a spool, for proofs to cite.

@@ -1,5 +1,5 @@
-ghost use Rattle.std.specs.Prelude.{◌≡◌, ℕ, ◌<◌, ◌≤◌, length, slice_index_or};
-ghost use Rattle.lines.specs.declared.note.Note.TheVariants.{Ask};
+ghost use Rattle.std.specs.Prelude.{◌≡◌, ◌<◌, ◌≤◌, length, take};
+ghost use Rattle.std.specs.List.{All};
 
 use protocol::delivery::Post;
 
@@ -7,10 +7,11 @@ mod posting;
 mod sending;
 
 /// What a step posts, in order. It can be neither copied nor let go: it is sent.
+// No `ArrayVec`: it asks for a default post, and no post is one.
 pub struct Outbox {
     posts: [Post; 64],
     count: usize,
     ghost long: { length posts ≡ 64 },
     ghost few: { count ≤ 64 },
-    ghost stations: { ((k : ℕ) → k < count → (slice_index_or posts k (record { to = 0; note = Ask 0 })).to < 8) },
+    ghost to_stations: { All (λ post. post.to < 8) (take count posts) },
 }

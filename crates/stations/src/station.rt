@@ -13,6 +13,7 @@ pub struct Station {
 }
 
 // Whether a request is open: its event, the locks had so far and the marks seen.
+// No `Option`: a step is one match on resting or asking together with the note.
 #[derive(Clone, Copy)]
 enum State {
     Resting,

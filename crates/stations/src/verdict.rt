@@ -3,17 +3,15 @@ ghost use Rattle.events.specs.Marks.{marks};
 ghost use Rattle.events.specs.Members.{member};
 ghost use Rattle.lines.specs.declared.note.Note.TheVariants.{Settle};
 ghost use Rattle.protocol.specs.Station.{concerned};
-ghost use Rattle.protocol.specs.declared.delivery.Delivery.TheVariants.{Answered};
 ghost use Rattle.rules.specs.Answers.{accepted};
 ghost use Rattle.stations.specs.Outgoing.{outgoing};
 ghost use Rattle.stations.specs.Telling.{told};
 
+use crate::lock_sets::stations_concerned;
 use crate::outbox::Outbox;
-use crate::sets::stations_concerned;
 use events::{Marking, StationSet};
 use lines::note::Note;
 use protocol::answer::Answer;
-use protocol::delivery::Delivery;
 use rules::decision::Decision;
 use rules::rule::Rule;
 
@@ -38,9 +36,9 @@ impl Verdict {
         }
     }
 
-    // A settle to each station concerned, lowest first, and the answer.
-    pub(crate) fn settle(self) -> (Delivery, Outbox)
-        ensures delivery { result.0 ≡ Answered (record { event = self.event; decision = self.decision }) }
+    // The answer, and a settle to each station concerned, lowest first.
+    pub(crate) fn settle(self) -> (Answer, Outbox)
+        ensures answer { result.0 ≡ record { event = self.event; decision = self.decision } }
         ensures posts { outgoing result.1 ≡ told (member self.concerned.bits) (Settle self.event (accepted self.decision)) }
     {
         let Verdict {
@@ -56,6 +54,6 @@ impl Verdict {
         for station in concerned.members() {
             out.push(station, note);
         }
-        (Delivery::Answered(Answer { event, decision }), out)
+        (Answer { event, decision }, out)
     }
 }

@@ -1,26 +1,15 @@
 -- The laws of runs.
 use Rattle.std.proofs.Common.{◌≡◌, ℕ, zero, suc, ◌+◌, ◌<◌, ◌≤◌, Bool, true, false, cond, ◌⊎◌, List, [], ◌∷◌, length, get_or, drop, Decides, sym, refl, ap, ◌∙◌, subst, inl, inr, arith}
 use Rattle.std.proofs.lemmas.List.{at_drop_all, at_drop_more}
-use Rattle.std.proofs.lemmas.Bool.{and_parts, cond-false, cond-true, ltb-true}
-use Rattle.std.proofs.lemmas.Bool.Decides.{Decides-and, Decides-like, Decides-ltb}
+use Rattle.std.proofs.lemmas.Bool.{and_parts, ltb-true}
+use Rattle.std.proofs.lemmas.Bool.Decides.{Decides-like}
 use Rattle.events.specs.declared.marks.Marks.{Marks}
 use Rattle.graph.specs.Content.{Content}
 use Rattle.graph.specs.declared.kind.Kind.TheVariants.{Response}
 use Rattle.graph.specs.declared.release.Release.{Release}
 use Rattle.rules.specs.Rule.{Meaning}
-use Rattle.tables.specs.Runs.{AcceptedExecutes, EnabledAccepted, LeftPending, PendingLasts, RefusedKeeps, RunFolds, accepts, after, doing, done, next}
+use Rattle.tables.specs.Runs.{LeftPending, PendingLasts, RunFolds, accepts, after, doing, done, next}
 use Rattle.rules.specs.Words.{RelatedIn, Rightful}
-
-pub enabled-accepted : EnabledAccepted
-enabled-accepted v c R right M e = Decides-and _ _ (Decides-ltb e R.events) (right.enables e M)
-
-pub refused-keeps : RefusedKeeps
-refused-keeps R M e k h = cond-false _ _ _ h
-
-pub accepted-executes : AcceptedExecutes
-accepted-executes v c R right M e h =
-    let l = ltb-true e R.events (and_parts _ _ h).0 in
-    ap (λ x. x.executed) (cond-true _ (R.does e M e) (M e) h) ∙ (right.does e M e l).executed.1 (inl refl)
 
 -- one request, and then the events that are done later
 fold_step : (R : Meaning) (M : ℕ → Marks) (e : ℕ) (later : List ℕ) (b : Bool) → doing R (λ k. cond b (R.does e M k) (M k)) later ≡ doing R M (cond b (e ∷ later) later)

@@ -34,10 +34,9 @@ impl<R: Rule + Drop> Table<R> {
         if event >= self.rule.events() {
             return Err(UnknownEvent);
         }
-        let marking = self.marking;
-        let decision = self.rule.decide(event, &marking);
+        let decision = self.rule.decide(event, &self.marking);
         if decision.is_accepted() {
-            self.marking = self.rule.perform(event, &marking);
+            self.marking = self.rule.perform(event, &self.marking);
         }
         Ok(decision)
     }

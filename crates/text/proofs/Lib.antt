@@ -1,4 +1,4 @@
-pub mod Fields
+pub mod FieldLaws
 pub mod Growth
 pub mod Single
 pub mod Steps

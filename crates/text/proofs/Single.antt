@@ -84,7 +84,7 @@ ends u v =
     let same = map_same written Fits written_same (declared u.before) (declared v.before) (fits-declared u.before u.sound) (fits-declared v.before v.sound) (sym u.all ∙ v.all) in
     u.told ∙ (λ i. record { number = 4; layer = 3; line = length (same i) + 1 }) ∙ sym v.told
 
-pub one-fault : (text : List ℕ) (p q : Report) → Refused text p → Refused text q → p ≡ q
+one-fault : (text : List ℕ) (p q : Report) → Refused text p → Refused text q → p ≡ q
 one-fault text p q (inl a) (inl b) = a.1 ∙ sym b.1
 one-fault text p q (inl a) (inr b) = absurd (omega arith)
 one-fault text p q (inr a) (inl b) = absurd (omega arith)

@@ -1,12 +1,17 @@
 -- The reader's progress: the lines so far are those of the draft.
-use Rattle.std.proofs.Common.{◌≡◌, ℕ, ◌+◌, ◌≤◌, false, List, [], ◌∷◌, ◌++◌, map, length, Some, Option, sym, ap, ◌∙◌, subst, inl, inr, append_assoc, append-nil, arith}
+use Rattle.std.proofs.Common.{◌≡◌, ℕ, ◌+◌, ◌≤◌, ltb, false, List, [], ◌∷◌, ◌++◌, map, length, Some, None, Option, MatchOption, MatchResult, sym, ap, ◌∙◌, subst, inl, inr, append_assoc, append-nil, arith}
 use Rattle.std.proofs.lemmas.List.{length_push, map-append}
+use Rattle.std.specs.Option.{ok_or}
+use Rattle.graph.specs.declared.graph.Graph.{Graph}
 use Rattle.graph.specs.Content.{Content, Sound}
+use Rattle.graph.specs.Held.{content}
+use Rattle.text.specs.Faults.{told}
+use Rattle.text.specs.declared.fault.GraphFault.{GraphFault}
 use Rattle.text.specs.declared.declaration.Declaration.{Declaration}
 use Rattle.text.specs.declared.fault.Report.{Report}
 use Rattle.lexer.specs.Lines.{lines, successor}
 use Rattle.text.specs.Declarations.{declarations, written}
-use Rattle.text.specs.Reading.{Comes, Faulty, Refused, SoFar, complete, declared}
+use Rattle.text.specs.Reading.{Comes, Faulty, Refused, SoFar, Writes, complete, declared}
 
 -- the lines of the text so far, n of them, are those declared, and rest is left
 pub record Reached (text : List ℕ) (before : Option Content) (rest : List ℕ) (n : ℕ) : Type 0 where
@@ -66,3 +71,10 @@ module _ {text : List ℕ} {before : Option Content} {rest : List ℕ} {n : ℕ}
           told = is ∙ (λ i. record { number = 4; layer = 3; line = s.count i + 1 });
         }),
       )
+
+-- the text ends, with a graph or too soon
+pub done : {text : List ℕ} {c : Content} {rest : List ℕ} {n : ℕ} → Reached text (Some c) rest n → lines rest ≡ [] → (o : Option Graph) → MatchOption o (length c.events ≡ 0) (λ g. content g ≡ c) →
+    (f : GraphFault) → told f ≡ record { number = 4; layer = 3; line = n + 1 } → MatchResult (ok_or o f) (λ g. Writes text (content g)) (λ f. Refused text (told f))
+done s none None lacks f is = ends s none (ap (ltb 0) lacks) (told f) is
+done s none (Some g) holds f is =
+    record { short = s.short; sound = subst Sound (sym holds) s.sound; some = g.some; written = all s none ∙ ap (λ c. map written (declarations c)) (sym holds) }

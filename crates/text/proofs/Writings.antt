@@ -24,12 +24,10 @@ use Rattle.lexer.specs.Numbers.{digit_from, digits, shaped}
 use Rattle.text.specs.Declarations.{Fits, declarations, field, letter_of, numbered, related, written}
 use Rattle.text.specs.Reading.{Faulty, FirstFault, Refused, SoFar, Writes, breaks, complete, declared}
 use Rattle.lexer.proofs.Numerals.{digits-shaped}
-use Rattle.text.proofs.Fields.{field-is, field-same, letter-apart}
+use Rattle.text.proofs.FieldLaws.{field-is, field-same}
 
 -- the part of a list that begins as another list does
 pub split-map : {A B : Type 0} (f : A → B) (P : A → Type 0) → ((x y : A) → P x → P y → f x ≡ f y → x ≡ y) → (xs ys : List A) (l : B) (rest : List B) → AllByRecursion P xs → AllByRecursion P ys → map f xs ≡ map f ys ++ l ∷ rest → (i : A) × (zs : List A) × (xs ≡ ys ++ i ∷ zs) × (l ≡ f i) × P i
-split-map f P inj [] [] l rest px py e = absurd (let z : ◌≡◌ {A = ℕ} 0 (suc (length rest)) = ap length e in omega arith)
-split-map f P inj [] (y ∷ ys) l rest px py e = absurd (let z : ◌≡◌ {A = ℕ} 0 (suc (length (map f ys ++ l ∷ rest))) = ap length e in omega arith)
 split-map f P inj (x ∷ xs) [] l rest px py e = let h : l ≡ f x = cc in (x, xs, refl, h, px.0)
 split-map f P inj (x ∷ xs) (y ∷ ys) l rest px py e =
     let h : f x ≡ f y = cc in
@@ -37,17 +35,18 @@ split-map f P inj (x ∷ xs) (y ∷ ys) l rest px py e =
     let r = split-map f P inj xs ys l rest px.1 py.1 t in
     let s = inj x y px.0 py.0 h in
     (r.0, r.1, (λ i. s i ∷ r.2 i), r.3, r.4)
+split-map f P inj [] (y ∷ ys) l rest px py e = absurd cc
+split-map f P inj xs ys l rest px py e = absurd cc
 
 pub map_same : {A B : Type 0} (f : A → B) (P : A → Type 0) → ((x y : A) → P x → P y → f x ≡ f y → x ≡ y) → (xs ys : List A) → AllByRecursion P xs → AllByRecursion P ys → map f xs ≡ map f ys → xs ≡ ys
 map_same f P inj [] [] px py e = refl
-map_same f P inj [] (y ∷ ys) px py e = absurd (let z : ◌≡◌ {A = ℕ} 0 (suc (length (map f ys))) = ap length e in omega arith)
-map_same f P inj (x ∷ xs) [] px py e = absurd (let z : ◌≡◌ {A = ℕ} (suc (length (map f xs))) 0 = ap length e in omega arith)
 map_same f P inj (x ∷ xs) (y ∷ ys) px py e =
     let h : f x ≡ f y = cc in
     let t : map f xs ≡ map f ys = cc in
     let s = inj x y px.0 py.0 h in
     let r = map_same f P inj xs ys px.1 py.1 t in
     (λ i. s i ∷ r i)
+map_same f P inj xs ys px py e = cc
 
 -- a letter is of one kind
 kind_by : ℕ → Kind
@@ -55,11 +54,7 @@ kind_by n = cond (eqb n 99) Condition (cond (eqb n 109) Milestone (cond (eqb n 1
 
 back : (k : Kind) → kind_by (letter_of k) ≡ k
 unfolding kind_by
-back Condition = refl
-back Milestone = refl
-back Response = refl
-back Include = refl
-back Exclude = refl
+back k = grind arith
 
 pub two-same : (a b c d : ℕ) → (a < 1000) × (b < 1000) → (c < 1000) × (d < 1000) → field a ++ field b ≡ field c ++ field d → (a ≡ c) × (b ≡ d)
 two-same a b c d f g e =
@@ -72,23 +67,18 @@ written_same (Stations n r) (Stations m s) fi fj e =
     let t : field n ++ field r ≡ field m ++ field s = cc in
     let p = two-same n r m s fi fj t in
     (λ i. Stations (p.0 i) (p.1 i))
-written_same (Stations n r) (Event k o m) fi fj e = absurd (let z : ◌≡◌ {A = ℕ} 115 101 = cc in omega arith)
-written_same (Stations n r) (Relation k a b) fi fj e = absurd (let z : letter_of k ≡ 115 = cc in (letter-apart k).0 z)
-written_same (Event k o m) (Stations n r) fi fj e = absurd (let z : ◌≡◌ {A = ℕ} 115 101 = cc in omega arith)
 written_same (Event k o m) (Event k' o' m') fi fj e =
     let t : field k ++ (field o ++ field m) ≡ field k' ++ (field o' ++ field m') = cc in
     let p = field-same k k' (field o ++ field m) (field o' ++ field m') fi.0 fj.0 (λ _. refl) (λ _. refl) t in
     let q = two-same o m o' m' (fi.1, fi.2) (fj.1, fj.2) p.1 in
     (λ i. Event (p.0 i) (q.0 i) (q.1 i))
-written_same (Event k o m) (Relation k' a b) fi fj e = absurd (let z : letter_of k' ≡ 101 = cc in (letter-apart k').1 z)
-written_same (Relation k a b) (Stations n r) fi fj e = absurd (let z : letter_of k ≡ 115 = cc in (letter-apart k).0 z)
-written_same (Relation k a b) (Event k' o m) fi fj e = absurd (let z : letter_of k ≡ 101 = cc in (letter-apart k).1 z)
 written_same (Relation k a b) (Relation k' a' b') fi fj e =
     let l : letter_of k ≡ letter_of k' = cc in
     let t : field a ++ field b ≡ field a' ++ field b' = cc in
     let p = two-same a b a' b' fi fj t in
     let q = sym (back k) ∙ ap kind_by l ∙ back k' in
     (λ i. Relation (q i) (p.0 i) (p.1 i))
+written_same i j fi fj e = absurd (grind arith)
 
 -- a written line is clean
 printable-is : (b : ℕ) → 32 ≤ b → b ≤ 126 → printable b ≡ true
@@ -117,11 +107,7 @@ pub clean-field : (n : ℕ) → n < 1000 → clean (field n) ≡ true
 clean-field n h = clean-shaped (digits n) (digits-shaped n h).0
 
 letter-printable : (k : Kind) → printable (letter_of k) ≡ true
-letter-printable Condition = refl
-letter-printable Milestone = refl
-letter-printable Response = refl
-letter-printable Include = refl
-letter-printable Exclude = refl
+letter-printable k = grind arith
 
 pub clean-written : (i : Declaration) → Fits i → clean (written i) ≡ true
 clean-written (Stations n r) f = clean-append (field n) (field r) (clean-field n f.0) (clean-field r f.1)
@@ -143,27 +129,20 @@ all-unit : (rs : List relation.Relation) → AllByRecursion (λ _. Unit {0}) rs
 all-unit [] = tt
 all-unit (r ∷ rs) = (tt, all-unit rs)
 
-no-event : (r : relation.Relation) (k o m : ℕ) → related r ≡ Event k o m → ⊥
-no-event r k o m e = let z : ◌≡◌ {A = ℕ} 0 1 = cc in omega arith
-
 parts_same : (k : ℕ) (es fs : List event.Event) (rs ts : List relation.Relation) → numbered k es ++ map related rs ≡ numbered k fs ++ map related ts → (es ≡ fs) × (rs ≡ ts)
 parts_same k [] [] rs ts e = (refl, map_same related (λ _. Unit {0}) related_same rs ts (all-unit rs) (all-unit ts) e)
-parts_same k [] (f ∷ fs) [] ts e = absurd (let z : ◌≡◌ {A = ℕ} 0 (suc (length (numbered (k + 1) fs ++ map related ts))) = ap length e in omega arith)
-parts_same k [] (f ∷ fs) (r ∷ rs) ts e = absurd (let z : related r ≡ Event k f.owner (sum_of f.marks) = cc in no-event r k f.owner (sum_of f.marks) z)
-parts_same k (x ∷ es) [] rs [] e = absurd (let z : ◌≡◌ {A = ℕ} (suc (length (numbered (k + 1) es ++ map related rs))) 0 = ap length e in omega arith)
-parts_same k (x ∷ es) [] rs (t ∷ ts) e = absurd (let z : related t ≡ Event k x.owner (sum_of x.marks) = cc in no-event t k x.owner (sum_of x.marks) z)
 parts_same k (x ∷ es) (f ∷ fs) rs ts e =
     let o : x.owner ≡ f.owner = cc in
     let m : sum_of x.marks ≡ sum_of f.marks = cc in
     let t : numbered (k + 1) es ++ map related rs ≡ numbered (k + 1) fs ++ map related ts = cc in
     let r = parts_same (k + 1) es fs rs ts t in
     ((λ j. event-same x f o m j ∷ r.0 j), r.1)
+parts_same k [] fs [] ts e = absurd cc
+parts_same k es [] rs [] e = absurd cc
+parts_same k es fs rs ts e = absurd cc
 
 release-same : (r q : Release) → release_number r ≡ release_number q → r ≡ q
-release-same Four Four e = refl
-release-same Four Six e = absurd (omega arith)
-release-same Six Four e = absurd (omega arith)
-release-same Six Six e = refl
+release-same r q e = grind arith
 
 pub declarations-same : (c d : Content) → declarations c ≡ declarations d → c ≡ d
 declarations-same c d e =
@@ -184,10 +163,9 @@ fits-events k [] l h = tt
 fits-events k (e ∷ es) l h = ((omega arith, h.0, let few = sum-few e.marks in omega arith), fits-events (k + 1) es (omega arith) h.1)
 
 release-fits : (r : Release) → release_number r < 1000
-release-fits Four = omega arith
-release-fits Six = omega arith
+release-fits r = grind arith
 
-pub fits-declarations : (c : Content) → Sound c → AllByRecursion Fits (declarations c)
+fits-declarations : (c : Content) → Sound c → AllByRecursion Fits (declarations c)
 fits-declarations c s =
     let few = s.few_stations in (
       (omega arith, release-fits c.release),
@@ -220,12 +198,9 @@ unfolding NextEvent NextRelation
 next k [] [] rs ts d zs e =
     let r = split-map related (λ _. Unit {0}) related_same rs ts d zs (all-unit rs) (all-unit ts) e in
     inr (refl, (r.0, r.1, r.2, r.3))
-next k [] (f ∷ fs) [] ts d zs e = absurd (let z : ◌≡◌ {A = ℕ} 0 (suc (length ((numbered (k + 1) fs ++ map related ts) ++ d ∷ zs))) = ap length e in omega arith)
-next k [] (f ∷ fs) (r ∷ rs) ts d zs e = absurd (let z : related r ≡ Event k f.owner (sum_of f.marks) = cc in no-event r k f.owner (sum_of f.marks) z)
 next k (x ∷ es) [] rs [] d zs e =
     let h : d ≡ Event k x.owner (sum_of x.marks) = cc in
     inl (refl, (x, es, refl, h ∙ (λ j. Event ((let z : k ≡ k + 0 = omega arith in z) j) x.owner (sum_of x.marks))))
-next k (x ∷ es) [] rs (t ∷ ts) d zs e = absurd (let z : related t ≡ Event k x.owner (sum_of x.marks) = cc in no-event t k x.owner (sum_of x.marks) z)
 next k (x ∷ es) (f ∷ fs) rs ts d zs e =
     let o : x.owner ≡ f.owner = cc in
     let m : sum_of x.marks ≡ sum_of f.marks = cc in
@@ -235,6 +210,8 @@ next k (x ∷ es) (f ∷ fs) rs ts d zs e =
     (λ r. inl (r.0, (r.1.0, r.1.1, (λ j. same j ∷ r.1.2 j), r.1.3 ∙ (λ j. Event ((let z : k + 1 + length fs ≡ k + suc (length fs) = omega arith in z) j) r.1.0.owner (sum_of r.1.0.marks)))))
     (λ r. inr ((λ j. same j ∷ r.0 j), r.1))
     (next (k + 1) es fs rs ts d zs t)
+next k [] fs [] ts d zs e = absurd cc
+next k es fs rs ts d zs e = absurd cc
 
 known : (r : Release) → (eqb (release_number r) 4 || eqb (release_number r) 6) ≡ true
 known Four = refl

@@ -1,5 +1,6 @@
 -- The line that writes a declaration, and the declarations of a graph.
-use Rattle.std.specs.Prelude.{ℕ, ◌+◌, ◌<◌, List, [], ◌∷◌, ◌++◌, map, ◌≢◌}
+use Rattle.std.specs.Prelude.{◌≡◌, ℕ, ◌+◌, ◌<◌, List, [], ◌∷◌, ◌++◌, length, map, ◌≢◌}
+use Rattle.std.specs.List.{AllByRecursion}
 use Rattle.events.specs.Marks.{sum_of}
 use Rattle.graph.specs.declared.kind.Kind.{Kind}
 use Rattle.graph.specs.declared.kind.Kind.TheVariants.{Condition, Milestone, Response, Include, Exclude}
@@ -52,15 +53,20 @@ related r = Relation r.kind r.from r.to
 abbrev pub declarations : Content → List Declaration
 declarations c = Stations c.stations (release_number c.release) ∷ numbered 0 c.events ++ map related c.relations
 
--- no field, no one field, no two and no three fields stand there
+-- no field stands there
 abbrev pub NoField : List ℕ → Type 0
 NoField rest = (n : ℕ) (tail : List ℕ) → n < 1000 → Stop tail → rest ≢ field n ++ tail
 
-abbrev pub NoLast : List ℕ → Type 0
-NoLast rest = (n : ℕ) → n < 1000 → rest ≢ field n
+-- fields one after another
+abbrev pub fields : List ℕ → List ℕ
+fields [] = []
+fields (n ∷ []) = field n
+fields (n ∷ m ∷ ns) = field n ++ fields (m ∷ ns)
 
-abbrev pub NoPair : List ℕ → Type 0
-NoPair rest = (a b : ℕ) → a < 1000 → b < 1000 → rest ≢ field a ++ field b
+-- each has at most three digits
+abbrev pub Small : List ℕ → Type 0
+Small = AllByRecursion (λ n. n < 1000)
 
-abbrev pub NoTriple : List ℕ → Type 0
-NoTriple rest = (a b c : ℕ) → a < 1000 → b < 1000 → c < 1000 → rest ≢ field a ++ (field b ++ field c)
+-- no so many fields, and nothing else, stand there
+abbrev pub NoFields : ℕ → List ℕ → Type 0
+NoFields count rest = (ns : List ℕ) → length ns ≡ count → Small ns → rest ≢ fields ns

@@ -1,13 +1,18 @@
 -- Which texts write a graph down, and with which fault every other text is refused.
-use Rattle.std.specs.Prelude.{◌≡◌, ℕ, ◌+◌, ◌<◌, ◌≤◌, Bool, true, false, cond, not, ◌⊎◌, List, [], ◌∷◌, ◌++◌, map, length, Some, None, Option, nat_lt}
+use Rattle.std.specs.Prelude.{◌≡◌, ℕ, ◌+◌, ◌<◌, ◌≤◌, Bool, true, false, cond, not, ◌⊎◌, List, [], ◌∷◌, ◌++◌, map, length, Some, None, Option, Result, MatchOption, MatchResult, nat_lt}
 use Rattle.graph.specs.Content.{Content, Sound}
 use Rattle.graph.specs.Declarations.{clashing, fits_event, fits_head, fits_relation, full_of_events, full_of_relations}
 use Rattle.text.specs.declared.declaration.Declaration.{Declaration}
 use Rattle.text.specs.declared.declaration.Declaration.TheVariants.{Stations, Event, Relation}
+use Rattle.text.specs.declared.fault.GraphFault.TheVariants.{Line}
+use Rattle.text.specs.declared.fault.LineFault.{LineFault}
 use Rattle.text.specs.declared.fault.Report.{Report}
+use Rattle.text.specs.declared.parser.Entries.{Entries}
+use Rattle.text.specs.declared.parser.Entry.{Entry}
 use Rattle.lexer.specs.Bytes.{clean}
-use Rattle.lexer.specs.Lines.{lines}
+use Rattle.lexer.specs.Lines.{lines, successor}
 use Rattle.text.specs.Declarations.{Fits, NoDeclaration, declarations, written}
+use Rattle.text.specs.Faults.{told}
 
 -- the text writes the graph down: its lines are those that write the graph's declarations
 pub record Writes (text : List ℕ) (c : Content) : Type 0 where
@@ -104,3 +109,10 @@ Refused text p =
 -- the text's first line is l, and rest is left after it
 abbrev pub Comes : List ℕ → List ℕ → List ℕ → Type 0
 Comes text l rest = (lines text ≡ l ∷ lines rest) × (length rest < length text)
+
+-- the next line is taken, with what it declares or its fault, or none is left
+abbrev pub TakesEntry : Entries → Option (Result Entry LineFault) → Entries → Type 0
+TakesEntry before result after =
+    MatchOption result (lines before.lines.rest.bytes.now ≡ [])
+    (λ r. (l : List ℕ) × Comes before.lines.rest.bytes.now l after.lines.rest.bytes.now × (after.lines.number ≡ successor before.lines.number)
+    × MatchResult r (λ e. Fits e.declaration × (l ≡ written e.declaration) × (e.line ≡ after.lines.number)) (λ f. BadLine l after.lines.number (told (Line f))))

@@ -1,9 +1,12 @@
-ghost use Rattle.text.specs.Faults.{told};
+ghost use Rattle.text.specs.Faults.{told, fault_text};
 ghost use Rattle.text.specs.declared.fault.GraphFault.TheVariants.{Line};
 ghost use Rattle.text.specs.declared.fault.LineFault.TheVariants.{Byte};
-ghost use Rattle.std.specs.Prelude.{◌≡◌};
+ghost use Rattle.std.specs.Prelude.{◌≡◌, Some};
 
+use graph::error::BuildError;
 use lexer::fault::ByteFault;
+use std::error::Error;
+use std::fmt;
 
 /// A fault of a line: the second layer.
 #[derive(Clone, Copy)]
@@ -17,18 +20,15 @@ pub enum LineFault {
 #[derive(Clone, Copy)]
 pub enum GraphFault {
     Line(LineFault),
-    /// The line declares what no graph may have.
-    Invalid(usize),
     /// The line stands where its kind may not stand, or a line is missing there.
     Order(usize),
-    /// The line gives a relation again, or an include with an exclude.
-    Conflict(usize),
-    /// The line declares an event or a relation for which there is no room.
-    Full(usize),
+    /// The graph refuses what the line declares.
+    Build { error: BuildError, line: usize },
 }
 
 /// What a fault tells: its number, its layer and its line.
-#[derive(Clone, Copy)]
+// Numbers: the rules name the faults of texts by them, and `GraphFault` is the enum.
+#[derive(Clone, Copy, Debug)]
 pub struct Report {
     pub number: u8,
     pub layer: u8,
@@ -51,19 +51,16 @@ impl From<LineFault> for GraphFault {
     }
 }
 
-impl GraphFault {
-    /// The fault's number, layer and line.
-    pub fn report(self) -> Report
-        ensures { result ≡ told self }
-    {
-        let (number, layer, line) = match self {
+impl From<GraphFault> for Report {
+    ghost from_gives = { λ e r. r ≡ told e };
+
+    fn from(fault: GraphFault) -> Report {
+        let (number, layer, line) = match fault {
             GraphFault::Line(LineFault::Byte(ByteFault::TooLong)) => (7, 1, 0),
             GraphFault::Line(LineFault::Byte(ByteFault::Unprintable(line))) => (1, 1, line),
             GraphFault::Line(LineFault::Form(line)) => (2, 2, line),
-            GraphFault::Invalid(line) => (3, 3, line),
             GraphFault::Order(line) => (4, 3, line),
-            GraphFault::Conflict(line) => (5, 3, line),
-            GraphFault::Full(line) => (6, 3, line),
+            GraphFault::Build { error, line } => (u8::from(error), 3, line),
         };
         Report {
             number,
@@ -72,3 +69,18 @@ impl GraphFault {
         }
     }
 }
+
+impl fmt::Display for Report {
+    ghost output = { λ p. Some (fault_text p) };
+
+    fn fmt<W: fmt::Write>(&self, f: &mut fmt::Formatter<W>) -> fmt::Result {
+        let Report {
+            number,
+            layer,
+            line,
+        } = *self;
+        write!(f, "fault {number}, layer {layer}, line {line}")
+    }
+}
+
+impl Error for Report {}

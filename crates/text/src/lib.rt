@@ -6,4 +6,4 @@ pub mod declaration;
 pub mod fault;
 mod parser;
 
-pub use parser::{last_field, two_fields};
+pub use parser::fields;

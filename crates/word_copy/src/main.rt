@@ -2,32 +2,30 @@
 #![tactic(auto)]
 
 use lexer::lines::Lines;
-use lexer::words::Words;
+use lexer::words::{Word, Words};
 use std::alloc::Global;
 
+/// The word after the letter of the text's first line.
+fn first_word(text: &[u8]) -> Option<Word> {
+    let line = Lines::of(text).ok()?.next()?;
+    let mut words = Words::of(line).ok()?;
+    words.letter()?;
+    words.next()
+}
+
 /// The first number of the text, in memory of its own; the text is then overwritten.
-fn first_number(heap: Global, text: &mut [u8]) -> anyhow::Result<Option<Vec<u8>>> {
-    let Ok(mut lines) = Lines::of(text) else {
+fn take_number(alloc: Global, text: &mut [u8]) -> anyhow::Result<Option<Vec<u8>>> {
+    let Some(word) = first_word(text) else {
         return Ok(None);
     };
-    let Some(line) = lines.next_line() else {
-        return Ok(None);
-    };
-    let Ok(mut words) = Words::of(line) else {
-        return Ok(None);
-    };
-    let _letter = words.letter();
-    let Some(word) = words.next_word() else {
-        return Ok(None);
-    };
-    let kept = word.copied(heap)?;
+    let kept = word.copied(alloc)?;
     text.fill(b'#');
     Ok(Some(kept))
 }
 
 fn main(rt: HostRuntime) -> anyhow::Result<()> {
     let mut text = *b"s 2 6\n";
-    if let Some(kept) = first_number(rt.alloc(), &mut text)? {
+    if let Some(kept) = take_number(rt.alloc(), &mut text)? {
         println!(rt; "kept {kept:?} of a text that is now {text:?}")?;
     }
     Ok(())

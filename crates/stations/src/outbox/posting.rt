@@ -12,7 +12,7 @@ impl Outbox {
     {
         let blank = Post {
             to: 0,
-            note: Note::Unreadable,
+            note: Note::Ask { event: 0 },
         };
         Outbox {
             posts: [blank; 64],
@@ -20,6 +20,7 @@ impl Outbox {
         }
     }
 
+    // The station is a number below 8, as the rule gives the owner of an event: a `StationId` would be tested at each post.
     pub(crate) fn single(to: u8, note: Note) -> Outbox
         requires { to < 8 }
         ensures { outgoing result ≡ record { to = to; note = note } ∷ [] }

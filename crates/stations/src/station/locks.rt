@@ -8,7 +8,7 @@ ghost use Rattle.stations.specs.Shows.{shows};
 
 use super::Station;
 use crate::outbox::Outbox;
-use crate::sets::{is_own, own_events};
+use crate::role::Role;
 use crate::station_id::StationId;
 use events::{Marking, Marks};
 use lines::note::Note;
@@ -16,12 +16,13 @@ use rules::rule::Rule;
 
 impl Station {
     // The asker gets the lock of the event, or waits for it.
+    // The record is found by `event < 64`: callers know the event as the rule's, so that a type would only repeat it.
     pub(super) fn ask(&mut self, from: StationId, event: u8) -> Outbox
         requires { event < 64 }
-        ensures after { shows self.new ≡ (asks (shows self.old) from.number event ((shows self.old).holder event)).station }
-        ensures posts { outgoing result ≡ (asks (shows self.old) from.number event ((shows self.old).holder event)).posts }
+        ensures after { shows self.new ≡ (asks (shows self.old) from event ((shows self.old).holder event)).station }
+        ensures posts { outgoing result ≡ (asks (shows self.old) from event ((shows self.old).holder event)).posts }
     {
-        let asker = from.number();
+        let asker = u8::from(from);
         let lock = &mut self.locks[event as usize];
         match lock.holder {
             None => {
@@ -39,45 +40,38 @@ impl Station {
     // What a settle brings about: an accepted event is done, and then the locks of the sender are freed.
     pub(super) fn settle<R: Rule>(
         &mut self,
-        rule: &R,
-        me: StationId,
+        role: &Role<R>,
         from: StationId,
         event: u8,
         accepted: bool,
     ) -> Outbox
-        ensures after { shows self.new ≡ (settled (R.Rule.meaning rule.now) (shows self.old) from.number me.number event accepted).station }
-        ensures posts { outgoing result ≡ (settled (R.Rule.meaning rule.now) (shows self.old) from.number me.number event accepted).posts }
+        ensures after { shows self.new ≡ (settled (R.Rule.meaning role.now.rule.now) (shows self.old) from role.now.me event accepted).station }
+        ensures posts { outgoing result ≡ (settled (R.Rule.meaning role.now.rule.now) (shows self.old) from role.now.me event accepted).posts }
     {
         if accepted {
-            self.perform(rule, me, event);
+            self.perform(role, event);
         }
         let marking = self.marking;
-        self.release(rule, me, from, &marking)
+        self.release(role, from, &marking)
     }
 
     // Doing the event changes the own events.
-    fn perform<R: Rule>(&mut self, rule: &R, me: StationId, event: u8)
-        ensures { shows self.new ≡ remarked (shows self.old) (marked (R.Rule.meaning rule.now) (shows self.old) me.number event true) }
+    fn perform<R: Rule>(&mut self, role: &Role<R>, event: u8)
+        ensures { shows self.new ≡ remarked (shows self.old) (marked (R.Rule.meaning role.now.rule.now) (shows self.old) role.now.me event true) }
     {
         let before = self.marking;
-        let done = rule.perform(event, &before);
-        self.marking = before.overlaid(done, own_events(rule, me));
+        let done = role.rule.perform(event, &before);
+        self.marking = before.overlaid(done, role.events());
     }
 
     // Each own event that the station has locked is freed, lowest event first. Grants tell the marks of the marking.
-    fn release<R: Rule>(
-        &mut self,
-        rule: &R,
-        me: StationId,
-        from: StationId,
-        marking: &Marking,
-    ) -> Outbox
-        ensures after { shows self.new ≡ freed (frees (R.Rule.meaning rule.now) (shows self.old) from.number me.number) (shows self.old) (R.Rule.meaning rule.now).events }
-        ensures posts { outgoing result ≡ hands (frees (R.Rule.meaning rule.now) (shows self.old) from.number me.number) (next (shows self.old)) (marks marking.now) (R.Rule.meaning rule.now).events }
+    fn release<R: Rule>(&mut self, role: &Role<R>, from: StationId, marking: &Marking) -> Outbox
+        ensures after { shows self.new ≡ freed (frees (R.Rule.meaning role.now.rule.now) (shows self.old) from role.now.me) (shows self.old) (R.Rule.meaning role.now.rule.now).events }
+        ensures posts { outgoing result ≡ hands (frees (R.Rule.meaning role.now.rule.now) (shows self.old) from role.now.me) (next (shows self.old)) (marks marking.now) (R.Rule.meaning role.now.rule.now).events }
     {
         let mut out = Outbox::empty();
-        for event in 0..rule.events() {
-            if is_own(rule, me, event) && self.is_held_by(event, from) {
+        for event in 0..role.rule.events() {
+            if role.owns(event) && self.is_held_by(event, from) {
                 self.pass_on(event, marking.marks(event), &mut out);
             }
         }
@@ -86,12 +80,9 @@ impl Station {
 
     fn is_held_by(&self, event: u8, station: StationId) -> bool
         requires { event < 64 }
-        ensures { result ≡ is ((shows self.now).holder event) station.number }
+        ensures { result ≡ is ((shows self.now).holder event) station }
     {
-        match self.locks[event as usize].holder {
-            Some(holder) => holder == station.number(),
-            None => false,
-        }
+        self.locks[event as usize].holder == Some(u8::from(station))
     }
 
     // The lock of the event goes to the lowest station that waits, with a grant of the given marks, or is free.

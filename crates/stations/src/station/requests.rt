@@ -4,15 +4,15 @@ ghost use Rattle.events.specs.Members.{member};
 ghost use Rattle.protocol.specs.Station.{begins, fresh, is_resting, owns};
 ghost use Rattle.rules.specs.Semantics.{lowest};
 ghost use Rattle.stations.specs.Shows.{blank, shows};
-ghost use Rattle.stations.specs.Steps.{Takes};
+ghost use Rattle.stations.specs.Steps.{Begins};
 
 use super::{Lock, State, Station};
+use crate::lock_sets::next_lock;
 use crate::outbox::Outbox;
-use crate::sets::{next_lock, own_events};
-use crate::station_id::StationId;
+use crate::role::Role;
 use events::{EventSet, Marking, StationSet};
 use lines::note::Note;
-use protocol::delivery::Delivery;
+use protocol::delivery::StrayMessage;
 use rules::rule::Rule;
 
 impl Station {
@@ -32,11 +32,11 @@ impl Station {
     }
 
     /// The station at the start: the start marks of its own events, no request, every lock free.
-    pub fn fresh<R: Rule>(rule: &R, me: StationId) -> Station
-        ensures { shows result ≡ fresh (R.Rule.meaning rule.now) me.number }
+    pub fn fresh<R: Rule>(role: &Role<R>) -> Station
+        ensures { shows result ≡ fresh (R.Rule.meaning role.now.rule.now) role.now.me }
     {
         let mut station = Station::blank();
-        station.marking = rule.start().restricted(own_events(rule, me));
+        station.marking = role.rule.start().restricted(role.events());
         station
     }
 
@@ -44,41 +44,31 @@ impl Station {
     pub fn is_resting(&self) -> bool
         ensures { result ≡ is_resting (shows self.now).request }
     {
-        match self.state {
-            State::Resting => true,
-            State::Asking { .. } => false,
-        }
+        matches!(self.state, State::Resting)
     }
 
     /// Opens a request of the event, and asks for its lowest lock.
-    pub fn begin<R: Rule>(&mut self, rule: &R, event: u8) -> (Delivery, Outbox)
-        ensures { Takes self.new result.0 result.1 (begins (R.Rule.meaning rule.now) (shows self.old) event (lowest ((R.Rule.meaning rule.now).locks event) (R.Rule.meaning rule.now).events)) }
+    pub fn begin<R: Rule>(&mut self, rule: &R, event: u8) -> Result<Outbox, StrayMessage>
+        ensures { Begins self.new result (begins (R.Rule.meaning rule.now) (shows self.old) event (lowest ((R.Rule.meaning rule.now).locks event) (R.Rule.meaning rule.now).events)) }
     {
         let had = EventSet::empty();
-        match next_lock(rule, event, had) {
-            Some(lock) => {
-                let seen = Marking::blank();
-                self.state = State::Asking { event, had, seen };
-                (
-                    Delivery::Carried,
-                    Outbox::single(rule.owner(lock), Note::Ask { event: lock }),
-                )
-            }
-            None => (Delivery::Stray, Outbox::empty()),
-        }
+        let lock = next_lock(rule, event, had).ok_or(StrayMessage)?;
+        let seen = Marking::blank();
+        self.state = State::Asking { event, had, seen };
+        Ok(Outbox::single(rule.owner(lock), Note::Ask { event: lock }))
     }
 
     /// The marking with the marks of the station's own events laid over it.
-    pub fn overlay_own<R: Rule>(&self, rule: &R, me: StationId, marking: Marking) -> Marking
-        ensures { (k : ℕ) → marks result k ≡ (if owns (R.Rule.meaning rule.now) me.number k then (shows self.now).marks k else marks marking k) }
+    pub fn overlay_own<R: Rule>(&self, role: &Role<R>, marking: Marking) -> Marking
+        ensures { (k : ℕ) → marks result k ≡ (if owns (R.Rule.meaning role.now.rule.now) role.now.me k then (shows self.now).marks k else marks marking k) }
     {
-        marking.overlaid(self.marking, own_events(rule, me))
+        marking.overlaid(self.marking, role.events())
     }
 
     /// The station's own events that are pending and included.
-    pub fn own_owed<R: Rule>(&self, rule: &R, me: StationId) -> EventSet
-        ensures { (k : ℕ) → member result.bits k ≡ (owns (R.Rule.meaning rule.now) me.number k && (((shows self.now).marks k).pending && ((shows self.now).marks k).included)) }
+    pub fn own_owed<R: Rule>(&self, role: &Role<R>) -> EventSet
+        ensures { (k : ℕ) → member result.bits k ≡ (owns (R.Rule.meaning role.now.rule.now) role.now.me k && (((shows self.now).marks k).pending && ((shows self.now).marks k).included)) }
     {
-        self.marking.owed().common(own_events(rule, me))
+        self.marking.owed().common(role.events())
     }
 }

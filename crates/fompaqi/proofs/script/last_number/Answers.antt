@@ -1,9 +1,9 @@
-use Rattle.std.proofs.Common.{sym, ◌∙◌, arith}
+use Rattle.std.proofs.Common.{◌≡◌, length, rules}
+use Rattle.fompaqi.proofs.Numbers.{one_number}
 use Rattle.fompaqi.proofs.script.last_number.Goals as goal
-use Rattle.text.proofs.Fields.{field-is}
 
-pub returns-then-n-gt255 : goal.returns-then-n-gt255
-returns-then-n-gt255 c m small e =
+pub returns : goal.returns
+returns c =
+    let one : length c.in_ok-n.field-0 ≡ 1 = search rules in
     let t = c.in_ok-n.ensures in
-    let same = field-is _ m t.0 (omega arith) (sym t.1 ∙ e) in
-    omega arith
+    rw c.ok.ensures.value (one_number _ c.in_ok-n.field-0 c.try_from.result one t.0 t.1 c.try_from.ensures)

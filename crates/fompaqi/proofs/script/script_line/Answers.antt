@@ -1,8 +1,7 @@
-use Rattle.std.proofs.Common.{sym, ap, ◌∙◌}
-use Rattle.fompaqi.specs.declared.script.ScriptLine.TheVariants.{Call}
+use Rattle.std.proofs.Common.{◌≡◌, Ok, Some, sym, ap, ◌∙◌, rules}
 use Rattle.fompaqi.proofs.script.script_line.Goals as goal
 
-pub returns-in-Some-clause-exact : goal.returns-in-Some-clause-exact
-returns-in-Some-clause-exact g c d fits e =
-    let t = c.in-Some.ensures in
-    ap Call (g.met.C.ScriptCall.one _ d t.0 fits (sym t.1 ∙ c.in-Ok.ensures.1 ∙ e))
+pub returns-clause-exact : goal.returns-clause-exact
+returns-clause-exact g c d fits e =
+    let t : g.C.ScriptCall.fits c.in_ok-call.call × (c.args.line.part.bytes.now ≡ g.C.ScriptCall.written c.in_ok-call.call) = search rules in
+    ap (λ x. Ok (Some x)) (g.met.C.ScriptCall.one _ d t.0 fits (sym t.1 ∙ e))

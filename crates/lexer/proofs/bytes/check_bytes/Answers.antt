@@ -1,12 +1,10 @@
-use Rattle.std.proofs.Common.{refl, arith}
-use Rattle.lexer.proofs.Cuts.{clean_all, clean-more, clean-stop}
+use Rattle.std.proofs.Common.{sym, ◌∙◌, rules, tests}
+use Rattle.std.proofs.lemmas.Iterator.{YieldsList-from_slice}
+use Rattle.std.proofs.lemmas.Iterator.Search.{all_from_yields_List}
+use Rattle.lexer.specs.Bytes.{printable}
 use Rattle.lexer.proofs.bytes.check_bytes.Goals as goal
 
-pub returns-then-not-is_printable : goal.returns-then-not-is_printable
-returns-then-not-is_printable c = (refl, clean-stop c.args.bytes.now c.loop-byte.byte-index c.loop-byte.invariant (omega arith) c.if-not-is_printable.ensures)
-
-pub loop-byte-preserved : goal.loop-byte-preserved
-loop-byte-preserved c = clean-more c.args.bytes.now c.loop-byte.byte-index c.loop-byte.invariant (omega arith) c.if-not-is_printable.ensures
-
-pub returns : goal.returns
-returns c = clean_all c.args.bytes.now c.loop-byte.byte-index c.loop-byte.invariant (omega arith)
+pub returns-then-all : goal.returns-then-all
+returns-then-all c =
+    sym (all_from_yields_List printable _ _ _ c.all.ensures.ran (YieldsList-from_slice c.args.line.part.bytes.now cc) (λ x b q k. search (rules, tests)))
+    ∙ c.if-all.true

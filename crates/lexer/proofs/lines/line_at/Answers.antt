@@ -1,41 +1,48 @@
-use Rattle.std.proofs.Common.{◌≡◌, ◌+◌, ◌-◌, [], length, get_or, drop, sym, ap, ◌∙◌, arith}
-use Rattle.std.proofs.lemmas.List.{length-drop}
-use Rattle.lexer.specs.Lines.{lines}
-use Rattle.lexer.proofs.Cuts.{next_here, next-passed, next-within}
+use Rattle.std.proofs.Common.{◌≡◌, ◌-◌, ◌<◌, ◌≤◌, ◌∙◌, [], ap, sym, List, length, get_or, Some, None, Option, ℕ, ⊎_elim, arith}
+use Rattle.std.specs.List.{slice_get}
+use Rattle.std.specs.Option.{option_map}
+use Rattle.std.proofs.lemmas.Option.{get_or_from_slice_get, slice_get_cases, slice_get_within}
+use Rattle.std.proofs.lemmas.Iterator.Consumers.{YieldsList-from_shown, nth_from_yields_List}
+use Rattle.lexer.specs.declared.lines.Line.{Line}
+use Rattle.lexer.specs.declared.lines.Lines.{Lines}
+use Rattle.lexer.specs.Lines.{TakesLine, lines}
 use Rattle.lexer.proofs.lines.line_at.Goals as goal
-use Rattle.lexer.proofs.lines.line_at.Goals.{In-Some}
+use Rattle.lexer.proofs.lines.line_at.Goals.{After-nth}
 
-module _ (c : In-Some) where
-  told : (c.in-Some.line.number ≡ c.loop-line.rest.number + 1) × (c.next_line.new.self.number ≡ c.in-Some.line.number)
-  told =
-      let t = c.in-Some.ensures in
-      let room = c.loop-line.invariant.1 in
-      let shorter = t.line.1 in
-      (omega (arith, t.number.0), t.number.1)
+past : (xs : List (List ℕ)) (k : ℕ) → slice_get xs k ≡ None → length xs ≤ k
+past xs k none = ⊎_elim (λ w. absurd (let z : ◌≡◌ {A = Option (List ℕ)} (Some w.0) None = sym w.2 ∙ none in cc)) (λ w. w.0) (slice_get_cases xs k).1
 
-pub returns-then-line-number : goal.returns-then-line-number
-returns-then-line-number c =
-    let p = told (goal.at.returns-then-line-number c).In-Some in
-    let t = c.in-Some.ensures.line.0 in
-    let n = c.loop-line.rest.number in
-    let is : n ≡ c.args.number - 1 = omega arith in (
-      omega arith,
-      omega (arith, next-within (lines c.args.text.now) n c.loop-line.invariant.0 t),
-      next_here (lines c.args.text.now) n c.loop-line.invariant.0 t [] ∙ ap (λ k. get_or (lines c.args.text.now) k []) is,
-    )
+read : Line → List ℕ
+read l = l.part.bytes.now
 
-pub loop-line-preserved : goal.loop-line-preserved
-loop-line-preserved c =
-    let p = told (goal.at.loop-line-preserved c).In-Some in
-    let t = c.in-Some.ensures.line in
-    let n = c.loop-line.rest.number in (
-      next-passed (lines c.args.text.now) n c.loop-line.invariant.0 t.0 ∙ ap (λ k. drop k (lines c.args.text.now)) (sym (p.1 ∙ p.0)),
-      omega arith,
-      (λ some. let below = c.loop-line.invariant.2 some in omega arith),
-    )
+module _ (c : After-nth) where
+  -- the lines are given in order
+  there : slice_get (lines c.args.text.now) c.in_ok-checked_sub.field-0 ≡ option_map read c.nth.result
+  unfolding read
+  there =
+      sym
+      (nth_from_yields_List c.nth.result c.nth.new.self c.in_ok-checked_sub.field-0 c.nth.ensures.ran
+      (YieldsList-from_shown TakesLine read (λ (s : Lines). lines s.rest.bytes.now) (λ s t h. ap length h.0) (λ s l t h. h.line) c.new.result)
+      ∙ (λ i. slice_get (lines (c.new.ensures.0 i)) c.in_ok-checked_sub.field-0))
+
+  gone : c.nth.result ≡ None → length (lines c.args.text.now) ≤ c.in_ok-checked_sub.field-0
+  gone e = past _ _ (there ∙ ap (option_map read) e)
+
+  found : (l : Line) → c.nth.result ≡ Some l → (c.in_ok-checked_sub.field-0 < length (lines c.args.text.now)) × (l.part.bytes.now ≡ get_or (lines c.args.text.now) c.in_ok-checked_sub.field-0 [])
+  unfolding read
+  found l e =
+      let at : slice_get (lines c.args.text.now) c.in_ok-checked_sub.field-0 ≡ Some l.part.bytes.now = there ∙ ap (option_map read) e in
+      let ls = lines c.args.text.now in
+      let k = c.in_ok-checked_sub.field-0 in
+      (slice_get_within ls k _ at, sym (get_or_from_slice_get ls k _ [] at))
+
+pub returns-in_err-line : goal.returns-in_err-line
+returns-in_err-line c =
+    let past = gone (goal.at.returns-in_err-line c).After-nth c.in_err-line.was in
+    rw c.from_residual-in_err-line.ensures (λ some. omega (arith, past, c.in_ok-checked_sub.ensures))
 
 pub returns : goal.returns
-returns c some =
-    let below = c.loop-line.invariant.2 some in
-    let none = c.in_default.ensures.line in
-    omega (arith, ap length (sym c.loop-line.invariant.0 ∙ none), length-drop c.loop-line.rest.number (lines c.args.text.now))
+returns c =
+    let at = found (goal.at.returns c).After-nth c.in_ok-line.line c.in_ok-line.was in
+    let k : c.in_ok-checked_sub.field-0 ≡ c.args.number - 1 = omega (arith, c.in_ok-checked_sub.ensures) in
+    (omega (arith, c.in_ok-checked_sub.ensures), omega (arith, at.0, c.in_ok-checked_sub.ensures), at.1 ∙ ap (λ n. get_or (lines c.args.text.now) n []) k)

@@ -1,22 +1,22 @@
-use Rattle.std.proofs.Common.{◌≡◌, ℕ, ◌+◌, ◌*◌, ◌<◌, ◌≤◌, Some, None, Option, sym, ap, ◌∙◌, arith, MatchOption}
-use Rattle.site.specs.declared.pairs.Pair.{Pair}
-use Rattle.site.proofs.LowestPairs.{found, none-lowest, none_more}
+-- The first pair found is the lowest.
+use Rattle.std.proofs.Common.{◌≡◌, ◌<◌, length, get_or, ap, ◌∙◌, ap₂, arith}
+use Rattle.site.proofs.LowestPairs.{found-at, none-lowest}
+use Rattle.site.proofs.Stationing.{numbered}
 use Rattle.site.proofs.pairs.lowest_pair.Goals as goal
-
-at : (place : ℕ) (low : Option ℕ) (r : Option Pair) → place < 64 → low ≡ Some place → MatchOption r (64 ≤ place) (λ p. 8 * p.from.number + p.to.number ≡ place)
-    → MatchOption r (low ≡ None) (λ p. low ≡ Some (8 * p.from.number + p.to.number))
-at place low None l e h = absurd (omega arith)
-at place low (Some p) l e h = e ∙ ap Some (sym h)
 
 pub returns-then-count-gt0 : goal.returns-then-count-gt0
 returns-then-count-gt0 g c =
-    let h = c.count.ensures in
-    at c.loop-place.place _ c.pair_at.result (omega arith) (found (g.L.Line.waits c.args.line.now) c.loop-place.place (omega arith) (omega arith) c.loop-place.invariant) c.pair_at.ensures
-
-pub loop-place-preserved : goal.loop-place-preserved
-loop-place-preserved g c =
-    let h = c.count.ensures in
-    none_more (g.L.Line.waits c.args.line.now) c.loop-place.place c.loop-place.invariant (omega arith)
+    let W = g.L.Line.waits c.args.line.now in
+    let i = c.loop-from.from-index in
+    let j = c.loop-to.to-index in
+    let few : i < 8 = omega (arith, ap length c.all-from-items.ensures) in
+    let less : j < 8 = omega (arith, ap length c.all-to-items.ensures) in
+    let a : get_or c.all-from-items.result i c.from-item.result ≡ i = ap (λ xs. get_or xs i c.from-item.result) c.all-from-items.ensures ∙ numbered i c.from-item.result few in
+    let b : get_or c.all-to-items.result j c.to-item.result ≡ j = ap (λ xs. get_or xs j c.to-item.result) c.all-to-items.ensures ∙ numbered j c.to-item.result less in
+    let n : c.count.result ≡ length (W i j) = c.count.ensures ∙ ap₂ (λ x y. length (W x y)) (c.into.ensures.0 ∙ a) (c.into-in-loop-to.ensures.0 ∙ b) in
+    rw (a, b) (found-at W i j few less (omega (arith, n)) c.loop-to.invariant, less)
 
 pub returns : goal.returns
-returns g c = none-lowest (g.L.Line.waits c.args.line.now) (λ k l. c.loop-place.invariant k (omega arith))
+returns g c =
+    let l = ap length c.all-from-items.ensures in
+    none-lowest (g.L.Line.waits c.args.line.now) (λ k m. c.loop-from.invariant k (omega arith))

@@ -1,10 +1,7 @@
-use Rattle.std.proofs.Common.{◌∙◌, arith, get_or-set_other, get_or-set_same, below_more}
+use Rattle.spool.proofs.Parts.{past-front, zero-front}
 use Rattle.spool.proofs.slot.clear.Goals as goal
 
-pub loop-i-preserved : goal.loop-i-preserved
-loop-i-preserved c = (
-  below_more _ _
-      (λ k h. get_or-set_other c.loop-i.bytes c.loop-i.i k 0 0 (λ e. omega arith) ∙ c.loop-i.invariant.0 k h)
-      (get_or-set_same c.loop-i.bytes c.loop-i.i 0 0 (omega arith)),
-  λ k h. get_or-set_other c.loop-i.bytes c.loop-i.i k 0 0 (λ e. omega arith) ∙ c.loop-i.invariant.1 k h,
-)
+pub returns : goal.returns
+returns c =
+    let z = c.fill.ensures.after (λ y e. e) in
+    record { cleared = λ k h. zero-front 832 c.args.bytes.now c.fill.new.self k c.requires z h; beyond = λ k h. past-front 832 c.args.bytes.now c.fill.new.self k c.requires z h }

@@ -1,6 +1,9 @@
--- The laws are theorems.
-use Rattle.tables.proofs.Running.{accepted-executes, enabled-accepted, pending-lasts, refused-keeps, run-folds}
+-- The laws of lists of requests are theorems.
+use Rattle.tables.proofs.Running.{pending-lasts, run-folds}
 use Rattle.tables.proofs.table.runs_keep_their_laws.Goals as goal
 
-pub returns : goal.returns
-returns c = record { enabled = enabled-accepted; refused = refused-keeps; folded = run-folds; executed = accepted-executes; pending = pending-lasts }
+pub returns-clause-folded : goal.returns-clause-folded
+returns-clause-folded c = run-folds
+
+pub returns-clause-pending : goal.returns-clause-pending
+returns-clause-pending c = pending-lasts

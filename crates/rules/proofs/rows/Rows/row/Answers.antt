@@ -3,5 +3,5 @@ use Rattle.std.proofs.Common.{sym, ◌∙◌, arith}
 use Rattle.rules.proofs.Masking.{cell-past}
 use Rattle.rules.proofs.rows.Rows.row.Goals as goal
 
-pub returns-else-event-lt64 : goal.returns-else-event-lt64
-returns-else-event-lt64 c k = c.empty.ensures k ∙ sym (cell-past c.args.self.now.sets c.args.event k (omega arith))
+pub returns-in-None : goal.returns-in-None
+returns-in-None c k = c.empty.ensures k ∙ sym (cell-past c.args.self.now.sets c.args.event k (omega (arith, c.in-None.ensures)))

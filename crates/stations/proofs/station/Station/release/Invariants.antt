@@ -10,7 +10,7 @@ use Rattle.stations.proofs.station.Station.release.Given as goal
 abbrev pub invariant-loop-event : goal.invariant-loop-event
 invariant-loop-event g l =
     let S = shows l.initial.self in
-    let p = frees (g.R.Rule.meaning l.rule) S l.from.number l.me.number in
+    let p = frees (g.R.Rule.meaning l.role.rule.now) S l.from l.role.me in
     (l.out.count ≤ l.event)
     × (shows l.self ≡ freed p S l.event)
     × (outgoing l.out ≡ hands p (next S) (marks l.marking) l.event)

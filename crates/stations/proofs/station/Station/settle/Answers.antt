@@ -10,10 +10,10 @@ use Rattle.stations.proofs.station.Station.settle.Goals.{else-accepted, then-acc
 
 pub returns : goal.returns
 returns g c =
-    let R = g.R.Rule.meaning c.args.rule.now in
+    let R = g.R.Rule.meaning c.args.role.now.rule.now in
     let S = shows c.args.self.now in
-    let a = c.args.from.number in
-    let b = c.args.me.number in
+    let a = c.args.from in
+    let b = c.args.role.now.me in
     let e = c.args.event in
     let ok = c.args.accepted in
     let T = shows c.if-accepted.self in

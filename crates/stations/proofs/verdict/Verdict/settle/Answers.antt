@@ -1,5 +1,5 @@
 -- Each turn tells the lowest station that is left.
-use Rattle.std.proofs.Common.{◌≡◌, ◌++◌, refl, ap, ◌∙◌, ap₂, arith}
+use Rattle.std.proofs.Common.{◌≡◌, ap, ◌∙◌, ap₂, arith}
 use Rattle.events.specs.Members.{member}
 use Rattle.lines.specs.declared.note.Note.TheVariants.{Settle}
 use Rattle.stations.specs.Outgoing.{outgoing}
@@ -7,27 +7,19 @@ use Rattle.stations.specs.Telling.{told}
 use Rattle.stations.proofs.Tellings.{told-few, told_more, told_none}
 use Rattle.stations.proofs.verdict.Verdict.settle.Goals as goal
 
-pub loop-station-init : goal.loop-station-init
-loop-station-init c =
-    (tt, tt, ap (λ xs. xs ++ told (member c.into_iter-station-iterator.result.rest.bits) (Settle c.args.self.event c.is_accepted.result)) c.empty-out.ensures.posts)
-
 pub push-requires : goal.push-requires
 push-requires c =
     let out = c.loop-station.out in
-    (told-few _ _ _ out.posts out.count (omega arith) c.loop-station.invariant.2, c.in-Some.ensures.steps.0.below)
+    (told-few _ _ _ out.posts out.count (omega arith) c.loop-station.invariant, c.in-Some.ensures.steps.0.below)
 
 pub loop-station-preserved : goal.loop-station-preserved
 loop-station-preserved c =
     let step = c.in-Some.ensures.steps in
-    (tt, tt, told_more _ _ c.in-Some.station _ (outgoing c.loop-station.out) (outgoing c.push.new.self) _ step.0 step.1 c.loop-station.invariant.2 c.push.ensures.posts)
+    told_more _ _ c.in-Some.station _ (outgoing c.loop-station.out) (outgoing c.push.new.self) _ step.0 step.1 c.loop-station.invariant c.push.ensures.posts
 
-pub returns : goal.returns
-returns c =
+pub returns-clause-posts : goal.returns-clause-posts
+returns-clause-posts c =
     let all : c.into_iter-station-iterator.result.rest ≡ c.args.self.concerned =
     ap (λ s. s.rest) c.into_iter-station-iterator.ensures.into_iter_gives ∙ c.members-station-items.ensures in
-    record {
-      delivery = refl;
-      posts =
-          told_none (member c.loop-station.station-iterator.rest.bits) _ (outgoing c.loop-station.out) _ c.loop-station.invariant.2 c.in-None.ensures.steps.0
-          ∙ ap₂ (λ s ok. told (member s.bits) (Settle c.args.self.event ok)) all c.is_accepted.ensures;
-    }
+    told_none (member c.loop-station.station-iterator.rest.bits) _ (outgoing c.loop-station.out) _ c.loop-station.invariant c.in-None.ensures.steps.0
+    ∙ ap₂ (λ s ok. told (member s.bits) (Settle c.args.self.event ok)) all c.is_accepted.ensures

@@ -7,6 +7,4 @@ use Rattle.stations.proofs.verdict.Verdict.settle.Given as goal
 
 abbrev pub invariant-loop-station : goal.invariant-loop-station
 invariant-loop-station l =
-    (goal.iterator-loop-station).can_next l.station-iterator
-    × (goal.iterator-loop-station).is_finite l.station-iterator
-    × (outgoing l.out ++ told (member l.station-iterator.rest.bits) l.note ≡ told (member l.initial.station-iterator.rest.bits) l.note)
+    outgoing l.out ++ told (member l.station-iterator.rest.bits) l.note ≡ told (member l.initial.station-iterator.rest.bits) l.note

@@ -12,9 +12,7 @@ loop-event-preserved g c =
       after_more (R c.args.self.now.rule) (marks l.self.marking) c.args.events.now l.event-index _ l.invariant.1 (R l.self.rule) (marks c.request.new.self.marking) (ap R l.invariant.0) c.loop-event-test.true c.request.ensures.marking,
     )
 
-pub returns : goal.returns
-returns g c =
-    let R = g.R.Rule.meaning c.args.self.now.rule in
+pub returns-clause-marking : goal.returns-clause-marking
+returns-clause-marking g c k =
     let l = c.loop-event in
-    let all = after-all R (marks l.self.marking) c.args.events.now l.event-index _ l.invariant.1 c.loop-event-test.false in
-    record { rule = l.invariant.0; marking = λ k. ap (λ N. N k) all }
+    ap (λ N. N k) (after-all (g.R.Rule.meaning c.args.self.now.rule) (marks l.self.marking) c.args.events.now l.event-index _ l.invariant.1 c.loop-event-test.false)

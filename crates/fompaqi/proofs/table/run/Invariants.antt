@@ -1,6 +1,0 @@
-use Rattle.std.proofs.Common.{length}
-use Rattle.fompaqi.proofs.table.run.Given as goal
-
--- each line leaves less of the script
-abbrev pub decreases-loop-line : goal.decreases-loop-line
-decreases-loop-line l = length l.lines.rest.now

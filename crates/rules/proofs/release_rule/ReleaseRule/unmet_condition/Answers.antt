@@ -1,0 +1,25 @@
+-- The members of the set are the unmet conditions.
+use Rattle.std.proofs.Common.{arith}
+use Rattle.std.proofs.lemmas.Bool.Decides.{nat_tests}
+use Rattle.events.specs.Marks.{marks}
+use Rattle.graph.specs.Held.{content}
+use Rattle.graph.specs.declared.kind.Kind.TheVariants.{Condition}
+use Rattle.rules.specs.Semantics.{read, unmet}
+use Rattle.rules.specs.Laws.{graph-within, unmet-within}
+use Rattle.rules.specs.Lowest.{lowest-member}
+use Rattle.rules.proofs.release_rule.ReleaseRule.unmet_condition.Goals as goal
+
+pub returns : goal.returns
+returns c =
+    let r = c.args.self.now in
+    let e = c.args.event in
+    let M = marks c.args.marking.now in
+    let rel = read r.release (content r.graph).relations in
+    lowest-member (unmet rel e M) _ c.minus.result.bits c.lowest.result
+    (λ k.
+    let m = c.minus.ensures k in
+    let i = c.common-included.ensures k in
+    let s = c.row.ensures k in
+    let t = r.ties Condition k e in grind (arith, nat_tests))
+    (unmet-within rel _ (graph-within r.graph r.release) e M)
+    c.lowest.ensures

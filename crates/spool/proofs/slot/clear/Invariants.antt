@@ -1,6 +1,0 @@
-use Rattle.std.proofs.Common.{◌≡◌, ℕ, ◌<◌, ◌≤◌, get_or}
-use Rattle.spool.proofs.slot.clear.Given as goal
-
-abbrev pub invariant-loop-i : goal.invariant-loop-i
-invariant-loop-i l =
-    ((k : ℕ) → k < l.i → get_or l.bytes k 0 ≡ 0) × ((k : ℕ) → 832 ≤ k → get_or l.bytes k 0 ≡ get_or l.initial.bytes k 0)
