@@ -107,6 +107,21 @@ impl<W: Word> Set<W> {
         self.minus(on).union(other.common(on))
     }
 
+    /// The members that pass the test.
+    pub fn filter<F: Fn(u8) -> bool>(self, test: F) -> Set<W>
+        requires { F.IsAlwaysCallable test }
+        ensures tested { (k : ℕ) → member (W.number self.bits) k ≡ true → F.post test k (member (W.number result.bits) k) }
+        ensures no_more { (k : ℕ) → member (W.number self.bits) k ≡ false → member (W.number result.bits) k ≡ false }
+    {
+        let mut passing = Self::empty();
+        for number in self.members() {
+            if test(number) {
+                passing = passing.with(number);
+            }
+        }
+        passing
+    }
+
     pub fn lowest(self) -> Option<u8>
         ensures { MatchOption result (NoMember (W.number self.bits)) (λ k. LowestMember W.WIDTH (W.number self.bits) k) }
     {

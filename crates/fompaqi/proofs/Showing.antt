@@ -1,20 +1,14 @@
 -- How much of a line is shown, and that a short line of printable bytes is shown as it is.
-use Rattle.std.proofs.Common.{◌≡◌, ℕ, ◌<◌, ◌≤◌, true, List, [], ◌∷◌, ◌++◌, map, length, take, codes, sym, refl, ap, ◌∙◌, ap₂, arith, append-nil}
-use Rattle.std.specs.Str.{encode_utf8_all}
-use Rattle.std.proofs.lemmas.List.{take_all}
-use Rattle.std.proofs.lemmas.Bool.Decides.{nat_tests}
-use Rattle.std.proofs.lemmas.Str.{encode_ascii}
+use Rattle.std.proofs.Common.{◌≡◌, ℕ, ◌<◌, ◌≤◌, min, true, List, [], ◌∷◌, ◌++◌, map, length, take, codes, sym, refl, ap, ◌∙◌, ap₂, append-nil}
+use Rattle.std.proofs.lemmas.List.{take_all, take_min}
 use Rattle.std.proofs.lemmas.Bool.{and_parts, cond-false, cond-true, le-ltb, lt-ltb}
 use Rattle.lexer.specs.Bytes.{clean}
 use Rattle.fompaqi.specs.Shown.{shown_byte, shown_line}
 
--- what is shown is one byte for each
-shown_below : (b : ℕ) → shown_byte b < 128
-shown_below b = grind (arith, nat_tests)
-
-pub shown-ascii : (bytes : List ℕ) → encode_utf8_all (map shown_byte bytes) ≡ map shown_byte bytes
-shown-ascii [] = refl
-shown-ascii (b ∷ bs) = ap₂ (λ x xs. x ++ xs) (encode_ascii (shown_byte b) (shown_below b)) (shown-ascii bs)
+-- at the end of the bytes that are shown, all of these have been
+pub shown-all : (bytes front : List ℕ) (n i : ℕ) → n ≡ min 120 (length bytes) → front ≡ take n bytes → length front ≤ i → map shown_byte (take i front) ≡ map shown_byte (take 120 bytes)
+shown-all bytes front n i least front-is end =
+    ap (map shown_byte) (take_all i front end ∙ front-is ∙ ap (λ k. take k bytes) least ∙ take_min 120 bytes)
 
 pub shown-long : (bytes shown : List ℕ) → 120 < length bytes → shown ≡ map shown_byte (take 120 bytes) → shown ++ codes " ..." ≡ shown_line bytes
 shown-long bytes shown l e = ap₂ (λ a b. a ++ b) e (sym (cond-true _ (codes " ...") [] (lt-ltb 120 (length bytes) l)))

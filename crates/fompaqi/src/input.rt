@@ -2,9 +2,9 @@ ghost use Rattle.std.specs.Prelude.{◌≡◌, ◌≤◌, IfOk, length};
 ghost use Rattle.fompaqi.specs.Scripts.{InOrder};
 ghost use Rattle.lexer.specs.Lines.{lines};
 
-use crate::check::shown;
 use crate::failure::Failure;
 use crate::script::{NoCall, ScriptCall, script_line};
+use crate::shown::ShownLine;
 use graph::graph::Graph;
 use lexer::lines::Lines;
 use std::io::Read;
@@ -58,6 +58,7 @@ pub fn graph_of(rt: &HostRuntime, path: &str) -> Result<Graph, Failure> {
 }
 
 /// The script in the file, each line of which is a call or is passed over.
+// The bytes and no list of calls: a line is printed as it is written, and each player reads its calls from there.
 pub fn script_of<C: ScriptCall + Drop>(rt: &HostRuntime, path: &str) -> Result<Vec<u8>, Failure>
     ensures few { IfOk result (λ v. length v.items ≤ 1048576) }
     ensures in_order { IfOk result (λ v. InOrder C.written C.fits (lines v.items)) }
@@ -84,7 +85,7 @@ fn check_script<C: ScriptCall + Drop>(
             return Err(Failure::NoCall {
                 path: String::from_str(rt.alloc(), path)?,
                 line: line.number,
-                written: shown(rt.alloc(), line.part.bytes)?,
+                written: ShownLine(line.part.bytes).to_string(rt.alloc())?,
                 forms: C::FORMS,
             });
         }

@@ -7,6 +7,7 @@ mod explain;
 mod failure;
 mod input;
 mod script;
+mod shown;
 mod site_play;
 mod table;
 mod verdict;

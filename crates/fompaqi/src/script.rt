@@ -137,7 +137,7 @@ pub fn script_line<C: ScriptCall + Drop>(line: Line) -> Result<Option<C>, NoCall
     if is_passed_over(line.part.bytes) {
         return Ok(None);
     }
-    let mut words = Words::of(line).map_err(|_| NoCall)?;
+    let mut words = Words::try_from(line).map_err(|_| NoCall)?;
     let call = call(&mut words).ok_or(NoCall)?;
     Ok(Some(call))
 }

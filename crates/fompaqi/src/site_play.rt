@@ -2,11 +2,11 @@ ghost use Rattle.std.specs.Prelude.{IfOk};
 ghost use Rattle.fompaqi.specs.Scripts.{SiteFits, WritesCalls, site_line};
 ghost use Rattle.lexer.specs.Lines.{lines};
 
-use crate::check::shown;
 use crate::command::LineKind;
 use crate::failure::Failure;
 use crate::input::{graph_of, script_of};
 use crate::script::script_line;
+use crate::shown::ShownLine;
 use lexer::lines::Lines;
 use memory_line::memory_line::MemoryLine;
 use protocol::call::{Call, Outcome, Reply};
@@ -60,7 +60,7 @@ fn print(rt: &HostRuntime, script: &[u8], outcomes: &[Outcome]) -> Result<(), Fa
         if let Ok(Some(_)) = script_line::<Call>(line)
             && let Some(outcome) = given.next()
         {
-            let written = shown(rt.alloc(), line.part.bytes)?;
+            let written = ShownLine(line.part.bytes);
             println!(rt; "{written} -> {}", Shown(*outcome))?;
         }
     }

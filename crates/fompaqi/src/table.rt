@@ -1,7 +1,7 @@
-use crate::check::shown;
 use crate::failure::Failure;
 use crate::input::{graph_of, script_of};
 use crate::script::script_line;
+use crate::shown::ShownLine;
 use lexer::lines::Lines;
 use reports::Shown;
 use rules::release_rule::ReleaseRule;
@@ -15,7 +15,7 @@ pub fn run(rt: &HostRuntime, graph_path: &str, script_path: &str) -> Result<(), 
     let mut table = Table::new(ReleaseRule::of(graph));
     for line in Lines::new(script.as_slice()) {
         if let Ok(Some(call)) = script_line(line) {
-            let written = shown(rt.alloc(), line.part.bytes)?;
+            let written = ShownLine(line.part.bytes);
             println!(rt; "{written} -> {}", Shown(serve_table(&mut table, call)))?;
         }
     }

@@ -33,13 +33,17 @@ impl<'a> Lines<'a> {
             number: 0,
         }
     }
+}
 
-    /// The lines of a graph text, or a fault where it is too long.
-    pub fn of(text: &'a [u8]) -> Result<Lines<'a>, ByteFault>
-        ensures { MatchResult result
-            (λ l. (length text.now ≤ 65536) × (l.rest.bytes.now ≡ text.now) × (l.rest.at ≡ 0) × (l.number ≡ 0))
-            (λ f. (f ≡ TooLong) × (65536 < length text.now)) }
-    {
+/// The lines of a graph text, or a fault where it is too long.
+impl<'a> TryFrom<&'a [u8]> for Lines<'a> {
+    type Error = ByteFault;
+
+    ghost try_from_gives = { λ text r. MatchResult r
+        (λ l. (length text.now ≤ 65536) × (l.rest.bytes.now ≡ text.now) × (l.rest.at ≡ 0) × (l.number ≡ 0))
+        (λ f. (f ≡ TooLong) × (65536 < length text.now)) };
+
+    fn try_from(text: &'a [u8]) -> Result<Lines<'a>, ByteFault> {
         if text.len() > LONGEST {
             return Err(ByteFault::TooLong);
         }

@@ -29,17 +29,21 @@ pub struct Words<'a> {
     rest: Part<'a>,
 }
 
-impl<'a> Words<'a> {
-    /// The words of the line, or a fault where it has a byte that is not printable.
-    pub fn of(line: Line<'a>) -> Result<Words<'a>, ByteFault>
-        ensures { MatchResult result
-            (λ w. (clean line.entry.part.bytes.now ≡ true) × (w.rest ≡ line.entry.part))
-            (λ f. (f ≡ Unprintable line.entry.number) × (clean line.entry.part.bytes.now ≡ false)) }
-    {
+/// The words of the line, or a fault where it has a byte that is not printable.
+impl<'a> TryFrom<Line<'a>> for Words<'a> {
+    type Error = ByteFault;
+
+    ghost try_from_gives = { λ line r. MatchResult r
+        (λ w. (clean line.part.bytes.now ≡ true) × (w.rest ≡ line.part))
+        (λ f. (f ≡ Unprintable line.number) × (clean line.part.bytes.now ≡ false)) };
+
+    fn try_from(line: Line<'a>) -> Result<Words<'a>, ByteFault> {
         check_bytes(line)?;
         Ok(Words { rest: line.part })
     }
+}
 
+impl<'a> Words<'a> {
     /// Whether nothing of the line is left.
     pub fn is_empty(&self) -> bool
         ensures { result ≡ (length self.now.rest.bytes.now == 0) }

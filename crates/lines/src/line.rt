@@ -9,6 +9,7 @@ use crate::message::Message;
 #[derive(Clone, Copy)]
 pub struct Full;
 
+// The number that a site's refusal of it has too.
 impl From<Full> for u8 {
     ghost from_gives = { λ refusal number. number ≡ post_number refusal };
 

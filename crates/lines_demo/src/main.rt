@@ -4,10 +4,11 @@
 mod script;
 mod show;
 
+use lines::line::Line;
 use lines::play::{LineAnswer, play};
 use memory_line::memory_line::MemoryLine;
-use script::CALLS;
-use spool::spool::Spool;
+use script::{CALLS, LENGTH};
+use spool::spool::{ShortMemory, Spool};
 
 /// Three bytes more than a spool uses, to see that these stay as they are.
 const LENT: usize = 835;
@@ -15,34 +16,34 @@ const LENT: usize = 835;
 /// What stands in a place for an answer before the call is made.
 const NO_ANSWER: LineAnswer = LineAnswer::Taken(None);
 
-/// Plays the calls on a spool in the lent bytes, or says why it cannot.
-fn play_on_spool(
-    rt: &HostRuntime,
-    bytes: &mut [u8],
-    answers: &mut [LineAnswer],
-) -> anyhow::Result<()> {
-    if let Err(short) = spool::spool::check(bytes) {
-        let number = u8::from(short);
-        println!(rt; "refused {number}")?;
-        return Ok(());
-    }
-    let mut line = Spool::new(bytes);
-    let _ = play(&mut line, &CALLS, answers);
-    Ok(())
+/// What the line answers to the calls.
+fn answers<L: Line>(line: &mut L) -> [LineAnswer; LENGTH]
+    requires { L.Line.sound line.old }
+    ensures { L.Line.sound line.new }
+{
+    let mut answers = [NO_ANSWER; LENGTH];
+    let _ = play(line, &CALLS, &mut answers);
+    answers
+}
+
+/// What a spool in the lent bytes answers, if these are enough for one.
+fn spool_answers(bytes: &mut [u8]) -> Result<[LineAnswer; LENGTH], ShortMemory> {
+    spool::spool::check(bytes)?;
+    Ok(answers(&mut Spool::new(bytes)))
 }
 
 fn main(rt: HostRuntime) -> anyhow::Result<()> {
-    let mut memory_answers = [NO_ANSWER; script::LENGTH];
     let mut line = MemoryLine::new();
-    let _ = play(&mut line, &CALLS, &mut memory_answers);
+    let in_memory = answers(&mut line);
 
-    let mut bytes = [255u8; LENT];
     let mut short = [255u8; 831];
-    let mut spool_answers = [NO_ANSWER; script::LENGTH];
-    play_on_spool(&rt, &mut short, &mut spool_answers)?;
-    play_on_spool(&rt, &mut bytes, &mut spool_answers)?;
-
-    show::calls(&rt, &memory_answers, &spool_answers)?;
+    if let Err(refusal) = spool_answers(&mut short) {
+        println!(rt; "refused {}", u8::from(refusal))?;
+    }
+    let mut bytes = [255u8; LENT];
+    if let Ok(in_spool) = spool_answers(&mut bytes) {
+        show::calls(&rt, &in_memory, &in_spool)?;
+    }
     show::lists(&rt, &mut line)?;
     show::bytes(&rt, &bytes)
 }

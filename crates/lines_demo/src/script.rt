@@ -19,10 +19,11 @@ const SETTLE: Message = Message {
     extra: 1,
 };
 
+/// How many calls there are.
 pub const LENGTH: usize = 16;
 
 /// The calls: the pair 0, 1 is filled and emptied by one, its neighbours hold one each, and the pair 0, 8 is none.
-pub const CALLS: [LineCall; 16] = [
+pub const CALLS: [LineCall; LENGTH] = [
     LineCall::Post {
         from: 0,
         to: 1,

@@ -5,6 +5,7 @@ use std::alloc::{AllocError, Global};
 use std::fmt::Write;
 
 /// A line for each call: the call, and what the memory line and the spool answer.
+// Two lists of answers: the calls are played on one line, and then on the other.
 pub fn calls(rt: &HostRuntime, memory: &[LineAnswer], spool: &[LineAnswer]) -> anyhow::Result<()> {
     for ((call, in_memory), in_spool) in CALLS.iter().zip(memory).zip(spool) {
         println!(rt; "{call} -> memory {in_memory}; spool {in_spool}")?;

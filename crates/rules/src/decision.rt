@@ -53,6 +53,7 @@ impl From<Decision> for u8 {
 pub struct UnknownEvent;
 
 /// The number of the refusal.
+// The number that a site's refusal of it has too.
 impl From<UnknownEvent> for u8 {
     ghost from_gives = { λ refusal number. number ≡ (reply (Err refusal) 0).0 };
 

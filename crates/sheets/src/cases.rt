@@ -1,10 +1,59 @@
+use crate::play::{Case, Play};
 use protocol::call::Call;
 use runs::table::TableCall;
 
-/// Event 1 needs event 0 and event 2 needs event 1, and after event 0 event 1 is owed.
-pub const CHAINED: &[u8] = b"s 2 6\ne 0 0 4\ne 1 1 4\ne 2 0 4\nc 0 1\nc 1 2\nr 0 1\n";
+pub const CASES: [Case; 9] = [
+    Case {
+        title: "one settle after another",
+        text: CHAINED,
+        play: Play::Site(&ONE_AFTER_ANOTHER),
+    },
+    Case {
+        title: "the second request is carried first",
+        text: CHAINED,
+        play: Play::Site(&SECOND_FIRST),
+    },
+    Case {
+        title: "the first request is carried first",
+        text: CHAINED,
+        play: Play::Site(&FIRST_FIRST),
+    },
+    Case {
+        title: "refused requests",
+        text: CHAINED,
+        play: Play::Site(&REFUSED),
+    },
+    Case {
+        title: "an event that excludes itself",
+        text: b"s 1 6\ne 0 0 4\nx 0 0\n",
+        play: Play::Table(&TWICE),
+    },
+    Case {
+        title: "an event that responds to itself",
+        text: b"s 1 6\ne 0 0 4\nr 0 0\n",
+        play: Play::Table(&ONCE_AND_LIST),
+    },
+    Case {
+        title: "an excluded condition source",
+        text: b"s 1 6\ne 0 0 0\ne 1 0 4\nc 0 1\n",
+        play: Play::Table(&SECOND_EVENT),
+    },
+    Case {
+        title: "a milestone holds until it is done",
+        text: b"s 1 6\ne 0 0 6\ne 1 0 4\nm 0 1\n",
+        play: Play::Table(&SECOND_FIRST_SECOND),
+    },
+    Case {
+        title: "an empty text",
+        text: b"",
+        play: Play::Fault,
+    },
+];
 
-pub const ONE_AFTER_ANOTHER: [Call; 6] = [
+/// Event 1 needs event 0 and event 2 needs event 1, and after event 0 event 1 is owed.
+const CHAINED: &[u8] = b"s 2 6\ne 0 0 4\ne 1 1 4\ne 2 0 4\nc 0 1\nc 1 2\nr 0 1\n";
+
+const ONE_AFTER_ANOTHER: [Call; 6] = [
     Call::Start,
     Call::Request {
         station: 1,
@@ -19,7 +68,7 @@ pub const ONE_AFTER_ANOTHER: [Call; 6] = [
     Call::WorkList,
 ];
 
-pub const SECOND_FIRST: [Call; 5] = [
+const SECOND_FIRST: [Call; 5] = [
     Call::Start,
     Call::Request {
         station: 0,
@@ -33,7 +82,7 @@ pub const SECOND_FIRST: [Call; 5] = [
     Call::Settle { room: 8 },
 ];
 
-pub const FIRST_FIRST: [Call; 5] = [
+const FIRST_FIRST: [Call; 5] = [
     Call::Start,
     Call::Request {
         station: 0,
@@ -47,7 +96,7 @@ pub const FIRST_FIRST: [Call; 5] = [
     Call::Settle { room: 8 },
 ];
 
-pub const REFUSED: [Call; 6] = [
+const REFUSED: [Call; 6] = [
     Call::Start,
     Call::Request {
         station: 5,
@@ -71,13 +120,13 @@ pub const REFUSED: [Call; 6] = [
     },
 ];
 
-pub const TWICE: [TableCall; 2] = [TableCall::Request(0), TableCall::Request(0)];
+const TWICE: [TableCall; 2] = [TableCall::Request(0), TableCall::Request(0)];
 
-pub const ONCE_AND_LIST: [TableCall; 2] = [TableCall::Request(0), TableCall::WorkList];
+const ONCE_AND_LIST: [TableCall; 2] = [TableCall::Request(0), TableCall::WorkList];
 
-pub const SECOND_EVENT: [TableCall; 1] = [TableCall::Request(1)];
+const SECOND_EVENT: [TableCall; 1] = [TableCall::Request(1)];
 
-pub const SECOND_FIRST_SECOND: [TableCall; 3] = [
+const SECOND_FIRST_SECOND: [TableCall; 3] = [
     TableCall::Request(1),
     TableCall::Request(0),
     TableCall::Request(1),

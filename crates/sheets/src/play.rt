@@ -9,16 +9,44 @@ use tables::table::Table;
 use text::builder::read;
 use text::fault::Report;
 
-/// The graph of a case, which is in order.
-fn graph_of(text: &[u8]) -> Result<Graph, Report> {
+/// A worked case: its title, a text, and what is done with it.
+#[derive(Clone, Copy)]
+pub struct Case {
+    pub title: &'static str,
+    pub text: &'static [u8],
+    pub play: Play,
+}
+
+/// What a case does with its text.
+#[derive(Clone, Copy)]
+pub enum Play {
+    /// Makes the calls on a site over the line in memory.
+    Site(&'static [Call]),
+    /// Makes the calls on one table.
+    Table(&'static [TableCall]),
+    /// Reads the text, which is not in order.
+    Fault,
+}
+
+impl Case {
+    /// Prints the title, and what comes of the case.
+    pub fn play(&self, rt: &HostRuntime) -> anyhow::Result<()> {
+        println!(rt; "# {}", self.title)?;
+        match self.play {
+            Play::Site(calls) => site(rt, read_graph(self.text)?, calls),
+            Play::Table(calls) => table(rt, read_graph(self.text)?, calls),
+            Play::Fault => fault(rt, self.text),
+        }
+    }
+}
+
+fn read_graph(text: &[u8]) -> Result<Graph, Report> {
     read(text).map_err(Report::from)
 }
 
-/// Makes the calls on a site over the line in memory.
-pub fn site(rt: &HostRuntime, title: &str, graph: &[u8], calls: &[Call]) -> anyhow::Result<()> {
-    println!(rt; "# {title}")?;
-    let rule = ReleaseRule::of(graph_of(graph)?);
+fn site(rt: &HostRuntime, graph: Graph, calls: &[Call]) -> anyhow::Result<()> {
     let mut outcomes = vec![in rt.alloc(); Ok(Reply::Nothing); calls.len()]?;
+    let rule = ReleaseRule::of(graph);
     let _ = run(rule, MemoryLine::new(), calls, outcomes.as_mut_slice());
     for (call, outcome) in calls.iter().zip(outcomes.iter()) {
         println!(rt; "{} -> {}", Shown(*call), Shown(*outcome))?;
@@ -26,15 +54,8 @@ pub fn site(rt: &HostRuntime, title: &str, graph: &[u8], calls: &[Call]) -> anyh
     Ok(())
 }
 
-/// Makes the calls on one table.
-pub fn table(
-    rt: &HostRuntime,
-    title: &str,
-    graph: &[u8],
-    calls: &[TableCall],
-) -> anyhow::Result<()> {
-    println!(rt; "# {title}")?;
-    let mut table = Table::new(ReleaseRule::of(graph_of(graph)?));
+fn table(rt: &HostRuntime, graph: Graph, calls: &[TableCall]) -> anyhow::Result<()> {
+    let mut table = Table::new(ReleaseRule::of(graph));
     for call in calls {
         let outcome = Shown(serve_table(&mut table, *call));
         match call {
@@ -45,10 +66,8 @@ pub fn table(
     Ok(())
 }
 
-/// Reads a text that is not in order.
-pub fn text(rt: &HostRuntime, title: &str, text: &[u8]) -> anyhow::Result<()> {
-    println!(rt; "# {title}")?;
-    if let Err(report) = graph_of(text) {
+fn fault(rt: &HostRuntime, text: &[u8]) -> anyhow::Result<()> {
+    if let Err(report) = read_graph(text) {
         println!(rt; "{report}")?;
     }
     Ok(())

@@ -6,5 +6,6 @@ pub mod Acting
 pub mod Transferring
 -- single calls
 pub mod Serving
+pub mod Requesting
 pub mod Settling
 pub mod Listing

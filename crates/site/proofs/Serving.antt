@@ -1,5 +1,6 @@
 -- What single calls did, as turns.
-use Rattle.std.proofs.Common.{◌≡◌, ℕ, ◌<◌, Bool, true, false, not, ◌&&◌, ltb, List, [], ◌∷◌, is_some, Some, None, Ok, Err, Option, Result, sym, refl, ap, ◌∙◌, subst, ap₂, inl, inr, arith}
+use Rattle.std.specs.Option.{option_copied, option_copied_mut}
+use Rattle.std.proofs.Common.{Bor, MutBor, ◌≡◌, ℕ, ◌<◌, Bool, true, false, not, ◌&&◌, ltb, List, [], ◌∷◌, is_some, Some, None, Ok, Err, Option, Result, sym, refl, ap, ◌∙◌, subst, ap₂, inl, inr, arith}
 use Rattle.std.proofs.lemmas.Bool.{lt-ltb}
 use Rattle.rules.specs.Rule.{Meaning}
 use Rattle.protocol.specs.Machine.{unless}
@@ -28,6 +29,13 @@ use Rattle.site.specs.declared.site.CarryAnswer.TheVariants.{Nothing, Carried, A
 -- an open site is its stations and its line
 pub open_is : (h : Status) → h.is_open ≡ true → h ≡ opened h.site
 open_is h e = λ i. record { is_open = e i; site = h.site }
+
+-- where an open site lends its stations, they are those it has
+pub lent : {X : Type 0} {o : Option (MutBor X)} {x : MutBor X} {v : Option X} → option_copied_mut o ≡ v → o ≡ Some x → v ≡ Some x.now
+lent p q = sym p ∙ ap option_copied_mut q
+
+pub lent-for-reading : {X : Type 0} {o : Option (Bor X)} {x : Bor X} {v : Option X} → option_copied o ≡ v → o ≡ Some x → v ≡ Some x.now
+lent-for-reading p q = sym p ∙ ap option_copied q
 
 -- a call of a site of the program that is open
 module _ {R L : Type 0} (rules : RuleGhosts R) (lines : LineGhosts L) (s : Site R L) (stations : List Station) (e : s.stations ≡ Some stations) where

@@ -46,16 +46,19 @@ says m (Err x) h e = h ∙ sym e
 -- ---- a transfer
 
 -- the oldest message of the pair a, b was taken, which left V
-pub record Taken (W V : Lists) (a b : ℕ) (m : Message) : Type 0 where
+record Taken (W V : Lists) (a b : ℕ) (m : Message) : Type 0 where
   pub oldest_is : Some m ≡ oldest (W a b)
   pub taken_is : (i j : ℕ) → V i j ≡ taken W a b i j
 
 -- the same, where the numbers of the stations were told by calls
-pub taking : {W V : Lists} {a b : ℕ} {m : Message} {from to : ℕ} → from ≡ a → to ≡ b → Some m ≡ oldest (W from to) → ((i j : ℕ) → V i j ≡ taken W from to i j) → Taken W V a b m
+taking : {W V : Lists} {a b : ℕ} {m : Message} {from to : ℕ} → from ≡ a → to ≡ b → Some m ≡ oldest (W from to) → ((i j : ℕ) → V i j ≡ taken W from to i j) → Taken W V a b m
 taking {W} x y old took =
     record { oldest_is = old ∙ ap₂ (λ i j. oldest (W i j)) x y; taken_is = λ i j. took i j ∙ ap₂ (λ k l. taken W k l i j) x y }
 
-module _ (R : Meaning) (limit : ℕ) {W V : Lists} (stations : List Station) {a b : ℕ} {m : Message} (k : Taken W V a b m) where
+module _ (R : Meaning) (limit : ℕ) (W V : Lists) (stations : List Station) {a b : ℕ} {m : Message} {from to : ℕ} (from-is : from ≡ a) (to-is : to ≡ b) (first : Some m ≡ oldest (W from to)) (took : (i j : ℕ) → V i j ≡ taken W from to i j) where
+  k : Taken W V a b m
+  k = taking from-is to-is first took
+
   abbrev S : Site
   S = site_of W stations
 

@@ -4,6 +4,7 @@ ghost use Rattle.protocol.specs.declared.refusal.Refusal.TheVariants.{UnknownSta
 ghost use Rattle.site.specs.Outcomes.{carrying};
 ghost use Rattle.site.specs.Served.{CallServed};
 
+use crate::pairs::Pair;
 use crate::site::{CarryAnswer, Site};
 use crate::transfers::transfer;
 use lines::line::Line;
@@ -27,11 +28,9 @@ impl<R: Rule + Drop, L: Line + Drop> Site<R, L> {
         requires { L.Line.sound self.old.line }
         ensures { CallServed R.Rule L.Line self.old (Carry from to) (carrying result) self.new }
     {
-        let Some(stations) = &mut self.stations else {
-            return Err(Refusal::WrongState);
-        };
+        let stations = self.stations.as_mut().ok_or(Refusal::WrongState)?;
         let from = known(&self.rule, from)?;
         let to = known(&self.rule, to)?;
-        Ok(transfer(&self.rule, &mut self.line, stations, from, to)?)
+        Ok(transfer(&self.rule, &mut self.line, stations, Pair { from, to })?)
     }
 }

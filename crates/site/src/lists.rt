@@ -36,9 +36,7 @@ impl<R: Rule + Drop, L: Line + Drop> Site<R, L> {
         requires { L.Line.sound self.now.line }
         ensures { CallServed R.Rule L.Line self.now AskWorkList (listing result) self.now }
     {
-        let Some(stations) = &self.stations else {
-            return Err(Refusal::WrongState);
-        };
+        let stations = self.stations.as_ref().ok_or(Refusal::WrongState)?;
         if lowest_pair(&self.line).is_some() {
             return Err(Refusal::MessageWaits);
         }
@@ -54,9 +52,7 @@ impl<R: Rule + Drop, L: Line + Drop> Site<R, L> {
         requires { L.Line.sound self.now.line }
         ensures { CallServed R.Rule L.Line self.now (Tally station) (tallying result) self.now }
     {
-        let Some(stations) = &self.stations else {
-            return Err(Refusal::WrongState);
-        };
+        let stations = self.stations.as_ref().ok_or(Refusal::WrongState)?;
         let me = known(&self.rule, station)?;
         let role = Role {
             rule: &self.rule,

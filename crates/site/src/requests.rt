@@ -42,9 +42,7 @@ impl<R: Rule + Drop, L: Line + Drop> Site<R, L> {
         requires { L.Line.sound self.old.line }
         ensures { CallServed R.Rule L.Line self.old (Request station event) (opening result) self.new }
     {
-        let Some(stations) = &mut self.stations else {
-            return Err(Refusal::WrongState);
-        };
+        let stations = self.stations.as_mut().ok_or(Refusal::WrongState)?;
         let me = requester(&self.rule, stations, station, event)?;
         let at = usize::from(me);
         let mut asking = stations[at];

@@ -33,7 +33,7 @@ fn carry_all<R: Rule, L: Line>(
         let Some(pair) = lowest_pair(line) else {
             return Ok(Settlement { answers, messages });
         };
-        match transfer(rule, line, stations, pair.from, pair.to)? {
+        match transfer(rule, line, stations, pair)? {
             CarryAnswer::Carried => {}
             CarryAnswer::Answered(answer) if answers < 8 => {
                 table[answers] = answer;
@@ -53,9 +53,7 @@ impl<R: Rule + Drop, L: Line + Drop> Site<R, L> {
         ensures sound { L.Line.sound self.new.line }
         ensures settles { Settles (R.Rule.meaning self.old.rule) L.Line.most (status L.Line self.old) table.old result table.new (status L.Line self.new) }
     {
-        let Some(stations) = &mut self.stations else {
-            return Err(Refusal::WrongState);
-        };
+        let stations = self.stations.as_mut().ok_or(Refusal::WrongState)?;
         if table.len() < 8 {
             return Err(Refusal::ShortTable);
         }

@@ -1,9 +1,10 @@
 -- The locks of a station are freed, one event after another.
-use Rattle.std.proofs.Common.{◌≡◌, ℕ, ◌+◌, Bool, true, false, cond, ◌&&◌, eqb, ltb, List, [], ◌++◌, Some, None, Option, sym, refl, ap, ◌∙◌, ap₂, inl, inr, add-one, arith}
+use Rattle.std.proofs.Common.{◌≡◌, ℕ, zero, suc, ◌+◌, ◌<◌, ◌≤◌, Bool, true, false, cond, not, ◌&&◌, eqb, ltb, List, [], ◌++◌, length, Some, None, Option, sym, refl, ap, ◌∙◌, ap₂, inl, inr, add-one, arith}
 use mathlib.Core.Path.{fun_ext}
 use Rattle.std.proofs.lemmas.List.{append-nil}
-use Rattle.std.proofs.lemmas.Bool.{cases_eq, ne_eqb}
+use Rattle.std.proofs.lemmas.Bool.{and_from, and_left, and_right, cases_eq, ne_eqb}
 use Rattle.std.proofs.lemmas.Bool.Decides.{nat_tests}
+use Rattle.events.specs.Members.{LowestMember, NoMember, member}
 use Rattle.events.specs.declared.marks.Marks.{Marks}
 use Rattle.lines.specs.declared.note.Note.{Note}
 use Rattle.lines.specs.declared.note.Note.TheVariants.{Grant}
@@ -92,6 +93,73 @@ pub keep-turn : (p : ℕ → Bool) (S T : Station) (M : ℕ → Marks) (n : ℕ)
 keep-turn p S T M n xs t e i =
     let none = none-handed (p n) (next S n) (Grant n (M n)) t in
     (e ∙ keep_one p S n t, i ∙ sym (append-nil _) ∙ ap (λ x. hands p (next S) M n ++ x) (sym none) ∙ rw add-one)
+
+-- none from m on passes until n
+keep-turns : (p : ℕ → Bool) (S T : Station) (M : ℕ → Marks) (m n : ℕ) (xs : List Post) → m ≤ n → ((k : ℕ) → m ≤ k → k < n → p k ≡ false) → T ≡ freed p S m → xs ≡ hands p (next S) M m → (T ≡ freed p S n) × (xs ≡ hands p (next S) M n)
+keep-turns p S T M m zero xs l none e i = let z : m ≡ 0 = omega arith in (e ∙ ap (freed p S) z, i ∙ ap (hands p (next S) M) z)
+keep-turns p S T M m (suc n) xs l none e i =
+    elim (cases_eq m (suc n)) [
+      | inl q ↦ (e ∙ ap (freed p S) q, i ∙ ap (hands p (next S) M) q)
+      | inr ne ↦
+          let h = keep-turns p S T M m n xs (omega arith) (λ k u v. none k u (omega arith)) e i in
+          let t = keep-turn p S T M n xs (none n (omega arith) (omega arith)) h.0 h.1 in
+          let z : n + 1 ≡ suc n = omega arith in
+          (t.0 ∙ ap (freed p S) z, t.1 ∙ ap (hands p (next S) M) z)
+    ]
+
+-- a settle from the station a: of the events of the station b, those below the turn are freed, and the rest are left; S was before
+pub record Turn (R : Meaning) (a b : ℕ) (S : Station) (M : ℕ → Marks) (rest : ℕ) (T : Station) (xs : List Post) : Type 0 where
+  pub turn : ℕ
+  pub known : turn ≤ R.events
+  pub few : length xs ≤ turn
+  pub left : (k : ℕ) → member rest k ≡ (owns R b k && not (ltb k turn))
+  pub station : T ≡ freed (frees R S a b) S turn
+  pub posts : xs ≡ hands (frees R S a b) (next S) M turn
+
+module _ (R : Meaning) (a b : ℕ) (S : Station) (M : ℕ → Marks) {rest : ℕ} {T : Station} {xs : List Post} (turn : Turn R a b S M rest T xs) where
+  -- no event is left
+  pub turn-all : NoMember rest → (T ≡ freed (frees R S a b) S R.events) × (xs ≡ hands (frees R S a b) (next S) M R.events)
+  turn-all h =
+      keep-turns (frees R S a b) S T M turn.turn R.events xs turn.known
+      (λ k m l. let x = h k in let y = turn.left k in and_left (owns R b k) (is (S.holder k) a) (grind (arith, nat_tests)))
+      turn.station turn.posts
+
+  module _ {e : ℕ} (low : LowestMember 64 rest e) where
+    turn-own : (owns R b e ≡ true) × (turn.turn ≤ e)
+    turn-own = let x = low.here in let y = turn.left e in (grind (arith, nat_tests), grind (arith, nat_tests))
+
+    turn-known : e < R.events
+    turn-known = let x = turn-own.0 in grind (arith, nat_tests)
+
+    pub turn-few : length xs < 64
+    turn-few = let x = turn.few in let y = turn-own.1 in let z = low.below in omega arith
+
+    turn-here : (T ≡ freed (frees R S a b) S e) × (xs ≡ hands (frees R S a b) (next S) M e)
+    turn-here =
+        keep-turns (frees R S a b) S T M turn.turn e xs turn-own.1
+        (λ k m l. let x = low.least k l in let y = turn.left k in and_left (owns R b k) (is (S.holder k) a) (grind (arith, nat_tests)))
+        turn.station turn.posts
+
+    turn-held : is (S.holder e) a ≡ is (T.holder e) a
+    turn-held = sym (ap (λ o. is o a) (holder-same (frees R S a b) S e T turn-here.0))
+
+    module _ (others : ℕ) (less : (k : ℕ) → member others k ≡ cond (eqb k e) false (member rest k)) where
+      turn-left : (k : ℕ) → member others k ≡ (owns R b k && not (ltb k (e + 1)))
+      turn-left k = let x = less k in let y = turn.left k in let z = low.least k in let w = turn-own.1 in grind (arith, nat_tests)
+
+      -- the sender has the lock of the lowest
+      pub turn-free : {U : Station} {x : Marks} {ys : List Post} → is (T.holder e) a ≡ true → U ≡ passed_on T e → length ys ≤ length xs + 1 → x ≡ M e → ys ≡ xs ++ hand true (next T e) (Grant e x) → Turn R a b S M others U ys
+      turn-free {U} {x} {ys} held u m marked y =
+          let l = turn-known in let f = turn.few in let o = turn-own.1 in
+          let h = free-turn (frees R S a b) S T U M e x xs ys (and_from _ _ turn-own.0 (turn-held ∙ held)) turn-here.0 turn-here.1 u marked y in
+          record { turn = e + 1; known = omega arith; few = omega arith; left = turn-left; station = h.0; posts = h.1 }
+
+      -- the sender does not have it
+      pub turn-keep : is (T.holder e) a ≡ false → Turn R a b S M others T xs
+      turn-keep held =
+          let l = turn-known in let f = turn.few in let o = turn-own.1 in
+          let h = keep-turn (frees R S a b) S T M e xs (and_right _ _ (turn-held ∙ held)) turn-here.0 turn-here.1 in
+          record { turn = e + 1; known = omega arith; few = omega arith; left = turn-left; station = h.0; posts = h.1 }
 
 -- ---- a settle is the change of the marks, and then the freeing
 

@@ -1,7 +1,7 @@
 -- A note to each station that passes a test.
-use Rattle.std.proofs.Common.{◌≡◌, ℕ, zero, suc, ◌<◌, ◌≤◌, Bool, true, false, cond, ◌&&◌, eqb, List, [], ◌∷◌, ◌++◌, length, take, is_some, Some, None, Option, sym, refl, ap, ◌∙◌, ap₂, inl, inr, arith, length-append}
+use Rattle.std.proofs.Common.{◌≡◌, ℕ, zero, suc, ◌<◌, ◌≤◌, Bool, true, false, cond, ◌&&◌, eqb, List, [], ◌∷◌, ◌++◌, length, is_some, Some, None, Option, sym, refl, ap, ◌∙◌, ap₂, inl, inr, arith, length-append}
 use mathlib.Core.Path.{fun_ext}
-use Rattle.std.proofs.lemmas.List.{append_assoc, append-nil, length-take-le}
+use Rattle.std.proofs.lemmas.List.{append_assoc, append-nil}
 use Rattle.std.proofs.lemmas.Bool.{and_parts, cases_eq, eqb-true}
 use Rattle.std.proofs.lemmas.Bool.Decides.{nat_tests}
 use Rattle.events.specs.Members.{LowestMember, member}
@@ -81,11 +81,10 @@ told_more set rest e note xs ys all low left i more =
     ∙ i
 
 -- fewer than 64 were told
-pub told-few : (p q : ℕ → Bool) (note : Note) (posts : List Post) (n : ℕ) → n ≤ length posts → take n posts ++ told p note ≡ told q note → n < 64
+pub told-few : (p q : ℕ → Bool) (note : Note) (posts : List Post) → posts ++ told p note ≡ told q note → length posts < 64
 unfolding told
-told-few p q note posts n l e =
-    let a = length-take-le n posts l in
-    let b = length-append (take n posts) (to_each p note 8) in
+told-few p q note posts e =
+    let b = length-append posts (to_each p note 8) in
     let c = ap length e in
     let d = to-few q note 8 in omega arith
 

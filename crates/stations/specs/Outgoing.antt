@@ -1,8 +1,8 @@
 -- What an outbox holds.
-use Rattle.std.specs.Prelude.{List, take}
+use Rattle.std.specs.Prelude.{List}
 use Rattle.protocol.specs.declared.delivery.Post.{Post}
 use Rattle.stations.specs.declared.outbox.Outbox.{Outbox}
 
 -- the posts that are to go out, in order
 abbrev pub outgoing : Outbox → List Post
-outgoing o = take o.count o.posts
+outgoing o = o.posts.items

@@ -25,12 +25,6 @@ impl<'r, R: Rule> Role<'r, R> {
     pub fn events(&self) -> EventSet
         ensures { (k : ℕ) → member result.bits k ≡ owns (R.Rule.meaning self.now.rule.now) self.now.me k }
     {
-        let mut own = EventSet::empty();
-        for event in 0..self.rule.events() {
-            if self.rule.owner(event) == u8::from(self.me) {
-                own = own.with(event);
-            }
-        }
-        own
+        EventSet::first(self.rule.events()).filter(|event| self.owns(event))
     }
 }

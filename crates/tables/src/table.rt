@@ -70,13 +70,7 @@ impl<R: Rule + Drop> Table<R> {
 pub fn enabled_events<R: Rule>(rule: &R, marking: &Marking) -> EventSet
     ensures { (k : ℕ) → member result.bits k ≡ accepts (R.Rule.meaning rule.now) (marks marking.now) k }
 {
-    let mut enabled = EventSet::empty();
-    for event in 0..rule.events() {
-        if rule.decide(event, marking).is_accepted() {
-            enabled = enabled.with(event);
-        }
-    }
-    enabled
+    EventSet::first(rule.events()).filter(|event| rule.decide(event, marking).is_accepted())
 }
 
 /// The laws of every run, for proofs to cite.

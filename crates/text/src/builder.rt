@@ -50,7 +50,7 @@ fn extend(draft: &mut Draft, entry: Entry) -> Result<(), GraphFault>
 fn build(text: &[u8]) -> Result<Graph, GraphFault>
     ensures { MatchResult result (λ g. Writes text.now (content g)) (λ f. Refused text.now (told f)) }
 {
-    let mut entries = Entries::of(text)?;
+    let mut entries = Entries::try_from(text)?;
     let first = entries.next().ok_or(GraphFault::Order(1))??;
     let mut draft = begin(first)?;
     let mut last = first.line;

@@ -92,18 +92,20 @@ pub fn parse(line: Line) -> Result<Declaration, LineFault>
     ensures { MatchResult result (λ d. Fits d × (line.entry.part.bytes.now ≡ written d))
         (λ f. BadLine line.entry.part.bytes.now line.entry.number (told (InLine f))) }
 {
-    let mut words = Words::of(line)?;
+    let mut words = Words::try_from(line)?;
     declaration(&mut words).ok_or(LineFault::Form(line.number))
 }
 
-impl<'a> Entries<'a> {
-    /// The declarations of the text, or a fault where it is too long.
-    pub fn of(text: &'a [u8]) -> Result<Entries<'a>, LineFault>
-        ensures { MatchResult result
-            (λ e. (length text.now ≤ 65536) × (e.lines.rest.bytes.now ≡ text.now) × (e.lines.number ≡ 0))
-            (λ f. (65536 < length text.now) × (told (InLine f) ≡ record { number = 7; layer = 1; line = 0 })) }
-    {
-        let lines = Lines::of(text)?;
+/// The declarations of the text, or a fault where it is too long.
+impl<'a> TryFrom<&'a [u8]> for Entries<'a> {
+    type Error = LineFault;
+
+    ghost try_from_gives = { λ text r. MatchResult r
+        (λ e. (length text.now ≤ 65536) × (e.lines.rest.bytes.now ≡ text.now) × (e.lines.number ≡ 0))
+        (λ f. (65536 < length text.now) × (told (InLine f) ≡ record { number = 7; layer = 1; line = 0 })) };
+
+    fn try_from(text: &'a [u8]) -> Result<Entries<'a>, LineFault> {
+        let lines = Lines::try_from(text)?;
         Ok(Entries { lines })
     }
 }

@@ -7,8 +7,8 @@ use std::alloc::Global;
 
 /// The word after the letter of the text's first line.
 fn first_word(text: &[u8]) -> Option<Word> {
-    let line = Lines::of(text).ok()?.next()?;
-    let mut words = Words::of(line).ok()?;
+    let line = Lines::try_from(text).ok()?.next()?;
+    let mut words = Words::try_from(line).ok()?;
     words.letter()?;
     words.next()
 }

@@ -1,22 +1,17 @@
-ghost use Rattle.std.specs.Prelude.{◌≡◌, ◌+◌, ◌<◌, [], ◌∷◌, ◌++◌};
+ghost use Rattle.std.specs.Prelude.{◌≡◌, ◌+◌, ◌<◌, [], ◌∷◌, ◌++◌, length};
 ghost use Rattle.stations.specs.Outgoing.{outgoing};
 
 use crate::outbox::Outbox;
+use arrayvec::ArrayVec;
 use lines::note::Note;
 use protocol::delivery::Post;
 
 impl Outbox {
     pub(crate) fn empty() -> Outbox
-        ensures posts { outgoing result ≡ [] }
-        ensures count { result.count ≡ 0 }
+        ensures { outgoing result ≡ [] }
     {
-        let blank = Post {
-            to: 0,
-            note: Note::Ask { event: 0 },
-        };
         Outbox {
-            posts: [blank; 64],
-            count: 0,
+            posts: ArrayVec::new(),
         }
     }
 
@@ -31,11 +26,10 @@ impl Outbox {
     }
 
     pub(crate) fn push(&mut self, to: u8, note: Note)
-        requires { (self.old.count < 64) × (to < 8) }
+        requires { (length (outgoing self.old) < 64) × (to < 8) }
         ensures posts { outgoing self.new ≡ outgoing self.old ++ record { to = to; note = note } ∷ [] }
-        ensures count { self.new.count ≡ self.old.count + 1 }
+        ensures count { length (outgoing self.new) ≡ length (outgoing self.old) + 1 }
     {
-        self.posts[self.count] = Post { to, note };
-        self.count += 1;
+        self.posts.push(Post { to, note });
     }
 }

@@ -60,8 +60,8 @@ impl Outbox {
         ensures lists { queues (L.Line.waits line.new) ≡ (if is_ok result then post_all (queues (L.Line.waits line.old)) me (outgoing self) else queues (L.Line.waits line.old)) }
     {
         let from = u8::from(me);
-        let Outbox { posts, count } = self;
-        let posts = &posts[..count];
+        let Outbox { posts } = self;
+        let posts = posts.as_slice();
         if !has_room(posts, line, from) {
             return Err(StrayMessage);
         }

@@ -1,4 +1,4 @@
-ghost use Rattle.std.specs.Prelude.{◌≡◌, ◌+◌, ◌<◌, ◌≤◌, true, ◌++◌};
+ghost use Rattle.std.specs.Prelude.{◌≡◌, ◌+◌, ◌<◌, ◌≤◌, true, ◌++◌, length};
 ghost use Rattle.events.specs.Marks.{marks};
 ghost use Rattle.lines.specs.declared.note.Note.TheVariants.{Grant};
 ghost use Rattle.protocol.specs.Station.{asks, frees, hand, hands, is, marked, next, settled};
@@ -70,8 +70,8 @@ impl Station {
         ensures posts { outgoing result ≡ hands (frees (R.Rule.meaning role.now.rule.now) (shows self.old) from role.now.me) (next (shows self.old)) (marks marking.now) (R.Rule.meaning role.now.rule.now).events }
     {
         let mut out = Outbox::empty();
-        for event in 0..role.rule.events() {
-            if role.owns(event) && self.is_held_by(event, from) {
+        for event in role.events().members() {
+            if self.is_held_by(event, from) {
                 self.pass_on(event, marking.marks(event), &mut out);
             }
         }
@@ -87,10 +87,10 @@ impl Station {
 
     // The lock of the event goes to the lowest station that waits, with a grant of the given marks, or is free.
     fn pass_on(&mut self, event: u8, given: Marks, out: &mut Outbox)
-        requires { (event < 64) × (out.old.count < 64) }
+        requires { (event < 64) × (length (outgoing out.old) < 64) }
         ensures after { shows self.new ≡ passed_on (shows self.old) event }
         ensures posts { outgoing out.new ≡ outgoing out.old ++ hand true (next (shows self.old) event) (Grant event given) }
-        ensures count { out.new.count ≤ out.old.count + 1 }
+        ensures count { length (outgoing out.new) ≤ length (outgoing out.old) + 1 }
     {
         let lock = &mut self.locks[event as usize];
         lock.holder = lock.waiting.lowest();

@@ -28,9 +28,9 @@ returns-in-None g c =
     subst (Leads _ _ _) (sym e)
     (record {
       station = refl;
-      delivery = ap (λ x. Ok (Some x)) (c.settle.ensures.answer ∙ ap₂ (λ x d. record { event = x; decision = d }) v.ensures.event v.ensures.decision);
+      delivery = ap (λ x. Ok (Some x)) (c.settle-settles.ensures.answer ∙ ap₂ (λ x d. record { event = x; decision = d }) v.ensures.event v.ensures.decision);
       posts =
-          c.settle.ensures.posts
+          c.settle-settles.ensures.posts
           ∙ told-concerned R (g.met.R.Rule.lawful rule) (g.met.R.Rule.stationed rule).1 _ a.event _ v.ensures.concerned
           ∙ ap₂ (λ x d. to_each (concerned R a.event) (Settle x (accepted d)) R.stations) v.ensures.event v.ensures.decision;
     })

@@ -1,5 +1,5 @@
 -- Each turn tells the lowest station that is left.
-use Rattle.std.proofs.Common.{◌≡◌, ap, ◌∙◌, ap₂, arith}
+use Rattle.std.proofs.Common.{◌≡◌, ap, ◌∙◌, ap₂}
 use Rattle.events.specs.Members.{member}
 use Rattle.lines.specs.declared.note.Note.TheVariants.{Settle}
 use Rattle.stations.specs.Outgoing.{outgoing}
@@ -9,8 +9,7 @@ use Rattle.stations.proofs.verdict.Verdict.settle.Goals as goal
 
 pub push-requires : goal.push-requires
 push-requires c =
-    let out = c.loop-station.out in
-    (told-few _ _ _ out.posts out.count (omega arith) c.loop-station.invariant, c.in-Some.ensures.steps.0.below)
+    (told-few _ _ _ (outgoing c.loop-station.out) c.loop-station.invariant, c.in-Some.ensures.steps.0.below)
 
 pub loop-station-preserved : goal.loop-station-preserved
 loop-station-preserved c =
