@@ -1,5 +1,5 @@
 -- Numbers of one to three digits: a number is written in one way, and read back.
-use Rattle.std.proofs.Common.{◌≡◌, ℕ, zero, suc, ◌+◌, ◌-◌, ◌*◌, ◌/◌, ◌%◌, ◌<◌, ◌≤◌, true, false, List, [], ◌∷◌, length, get_or, take, sym, refl, ap, ◌∙◌, subst, ⊎_elim, arith}
+use Rattle.std.proofs.Common.{◌≡◌, ℕ, ◌+◌, ◌-◌, ◌*◌, ◌/◌, ◌%◌, ◌<◌, ◌≤◌, true, false, List, [], ◌∷◌, sym, refl, ap, ◌∙◌, subst, ⊎_elim, arith}
 use Rattle.std.proofs.lemmas.Bool.{and_from, and_parts, both_ways, cases_lt, cond-false, cond-true, le-leb, le-ltb, leb-true, lt-ltb}
 use Rattle.lexer.specs.Numbers.{digit_from, digits, shaped, valued}
 use Rattle.lexer.specs.Parts.{Without}
@@ -64,36 +64,3 @@ shaped-digits (a ∷ b ∷ c ∷ []) e =
     let z : c ≡ 48 + v % 10 = omega arith in
     (omega arith, (λ i. x i ∷ y i ∷ z i ∷ []) ∙ sym (three v (omega arith)))
 shaped-digits (a ∷ b ∷ c ∷ d ∷ ds) e = absurd (both_ways false refl e)
-
--- one more digit of a number
-pub record OneMore (ds : List ℕ) (i d : ℕ) : Type 0 where
-  pub low : 48 ≤ d
-  pub high : d ≤ 57
-  pub small : valued (take i ds) < 100
-  pub more : valued (take (i + 1) ds) ≡ valued (take i ds) * 10 + (d - 48)
-
-pub one_more : (ds : List ℕ) (i : ℕ) → shaped ds ≡ true → i < length ds → OneMore ds i (get_or ds i 0)
-one_more [] i e lt = absurd (both_ways false refl e)
-one_more (a ∷ []) zero e lt =
-    let p = is_digit 48 a e in
-    record { low = p.0; high = p.1; small = omega arith; more = omega arith }
-one_more (a ∷ []) (suc i) e lt = absurd (omega arith)
-one_more (a ∷ b ∷ []) i e lt =
-    let q = and_parts _ _ e in
-    two_more a b i (is_digit 49 a q.0) (is_digit 48 b q.1) lt
-  where
-    two_more : (a b i : ℕ) → (49 ≤ a) × (a ≤ 57) → (48 ≤ b) × (b ≤ 57) → i < 2 → OneMore (a ∷ b ∷ []) i (get_or (a ∷ b ∷ []) i 0)
-    two_more a b zero p r lt = record { low = omega arith; high = p.1; small = omega arith; more = omega arith }
-    two_more a b (suc zero) p r lt = record { low = r.0; high = r.1; small = omega arith; more = omega arith }
-    two_more a b (suc (suc i)) p r lt = absurd (omega arith)
-one_more (a ∷ b ∷ c ∷ []) i e lt =
-    let q = and_parts _ _ e in
-    let q' = and_parts _ _ q.0 in
-    three_more a b c i (is_digit 49 a q'.0) (is_digit 48 b q'.1) (is_digit 48 c q.1) lt
-  where
-    three_more : (a b c i : ℕ) → (49 ≤ a) × (a ≤ 57) → (48 ≤ b) × (b ≤ 57) → (48 ≤ c) × (c ≤ 57) → i < 3 → OneMore (a ∷ b ∷ c ∷ []) i (get_or (a ∷ b ∷ c ∷ []) i 0)
-    three_more a b c zero p r t lt = record { low = omega arith; high = p.1; small = omega arith; more = omega arith }
-    three_more a b c (suc zero) p r t lt = record { low = r.0; high = r.1; small = omega arith; more = omega arith }
-    three_more a b c (suc (suc zero)) p r t lt = record { low = t.0; high = t.1; small = omega arith; more = omega arith }
-    three_more a b c (suc (suc (suc i))) p r t lt = absurd (omega arith)
-one_more (a ∷ b ∷ c ∷ d ∷ ds) i e lt = absurd (both_ways false refl e)

@@ -21,7 +21,11 @@ fn begin(first: Entry) -> Result<Draft, GraphFault>
     let Declaration::Stations { stations, release } = first.declaration else {
         return Err(GraphFault::Order(line));
     };
-    Draft::new(stations, release).map_err(|error| GraphFault::Build { error, line })
+    // A `match`: through the closure of a `map_err` the draft, of 1.8 KiB, would be copied twice more.
+    match Draft::new(stations, release) {
+        Ok(draft) => Ok(draft),
+        Err(error) => Err(GraphFault::Build { error, line }),
+    }
 }
 
 /// Adds what one more line declares, or gives its fault.
