@@ -1,5 +1,5 @@
 -- Masks hold the relations that were added.
-use Rattle.std.proofs.Common.{◌≡◌, ℕ, ◌+◌, ◌<◌, ◌≤◌, Bool, true, false, not, ◌&&◌, ◌||◌, ltb, List, length, drop, replicate, ap, ◌∙◌, inl, inr, arith}
+use Rattle.std.proofs.Common.{◌≡◌, ℕ, ◌+◌, ◌<◌, ◌≤◌, Bool, false, ◌&&◌, ◌||◌, ltb, List, length, drop, replicate, ap, ◌∙◌, inl, inr, arith}
 use Rattle.std.proofs.lemmas.List.{at_drop_all, at_drop_more, get_or_past, get_or-replicate, length-replicate}
 use Rattle.std.proofs.lemmas.Bool.{cases_lt}
 use Rattle.std.proofs.lemmas.Bool.Decides.{nat_tests}
@@ -7,12 +7,10 @@ use Rattle.events.proofs.MemberLaws.{member-past}
 use Rattle.events.specs.Members.{NoMember, member}
 use Rattle.events.specs.Sets.{EventSet}
 use Rattle.graph.specs.Content.{EndsIn, blank, relation_at}
-use Rattle.graph.specs.Releases.{barred}
 use Rattle.graph.specs.declared.kind.Kind.{Kind}
 use Rattle.graph.specs.declared.relation.Relation.{Relation}
-use Rattle.graph.specs.declared.release.Release.{Release}
 use Rattle.rules.specs.Cells.{cell, none}
-use Rattle.rules.specs.Semantics.{is, read, related}
+use Rattle.rules.specs.Semantics.{is, related}
 
 no_member : NoMember 0
 no_member k = member-past 0 0 k (omega arith) (omega arith)
@@ -36,18 +34,15 @@ related-all : (rs : List Relation) (i : ℕ) (k : Kind) (a b : ℕ) → length r
 unfolding related
 related-all rs i k a b l = at_drop_all (λ l. related l k a b) rs i l
 
--- a relation that the release reads is added, another is passed over: what the masks have and what is left stay all that it reads
-module _ (v : Release) (rs : List Relation) (n i : ℕ) (k : Kind) (a b : ℕ) (had all : Bool) (before : (had || read v (drop i rs) k a b) ≡ all) where
-  pub add-one-more : (has : Bool) → n ≤ 64 → EndsIn n rs → i < length rs → true ≡ not (barred v (relation_at rs i).kind) → has ≡ (had || (is k a b (relation_at rs i) && (ltb a 64 && ltb b 64))) → (has || read v (drop (i + 1) rs) k a b) ≡ all
-  add-one-more has few ends l reads now =
+-- one relation more is added, and those that are left with what the masks have make up all
+module _ (rs : List Relation) (n i : ℕ) (k : Kind) (a b : ℕ) (had all : Bool) (before : (had || related (drop i rs) k a b) ≡ all) where
+  pub add-one-more : (has : Bool) → n ≤ 64 → EndsIn n rs → i < length rs → has ≡ (had || (is k a b (relation_at rs i) && (ltb a 64 && ltb b 64))) → (has || related (drop (i + 1) rs) k a b) ≡ all
+  add-one-more has few ends l now =
       let e = ends i l in
       let x = e.0 in
       let y = e.1 in
       let more = related-more rs i k a b l in
       grind (arith, nat_tests)
-
-  pub pass-over : (has : Bool) → i < length rs → false ≡ not (barred v (relation_at rs i).kind) → has ≡ had → (has || read v (drop (i + 1) rs) k a b) ≡ all
-  pass-over has l skips now = let more = related-more rs i k a b l in grind (arith, nat_tests)
 
   pub all-added : length rs ≤ i → had ≡ all
   all-added l = let none_left = related-all rs i k a b l in grind (arith, nat_tests)

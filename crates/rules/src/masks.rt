@@ -2,13 +2,12 @@ ghost use Rattle.std.specs.Prelude.{◌≡◌, ℕ, false, ◌&&◌, ◌||◌, n
 ghost use Rattle.graph.specs.Held.{content};
 ghost use Rattle.graph.specs.declared.kind.Kind.{Kind as AnyKind};
 ghost use Rattle.rules.specs.Masked.{linked};
-ghost use Rattle.rules.specs.Semantics.{is, read};
+ghost use Rattle.rules.specs.Semantics.{is, related};
 
 use crate::rows::Rows;
 use graph::graph::Graph;
 use graph::kind::Kind;
 use graph::relation::Relation;
-use graph::release::Release;
 
 // The relations of a graph as sets of events: the sources of conditions and milestones by target, the targets of the
 // others by source.
@@ -48,15 +47,13 @@ impl Masks {
         }
     }
 
-    // The masks of exactly the relations of the graph that the release reads.
-    pub(crate) fn of(graph: &Graph, release: Release) -> Masks
-        ensures { (kind : AnyKind) (a b : ℕ) → linked result kind a b ≡ read release (content graph.now).relations kind a b }
+    // The masks of exactly the graph's relations.
+    pub(crate) fn of(graph: &Graph) -> Masks
+        ensures { (kind : AnyKind) (a b : ℕ) → linked result kind a b ≡ related (content graph.now).relations kind a b }
     {
         let mut masks = Masks::new();
         for relation in graph.relations() {
-            if release.allows(relation.kind) {
-                masks.add(*relation);
-            }
+            masks.add(*relation);
         }
         masks
     }

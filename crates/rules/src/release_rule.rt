@@ -1,11 +1,13 @@
 ghost use Rattle.std.specs.Prelude.{◌≡◌, ℕ, length};
 ghost use Rattle.events.specs.Marks.{marks};
+ghost use Rattle.events.specs.Members.{member};
 ghost use Rattle.graph.specs.Held.{content};
 ghost use Rattle.graph.specs.declared.kind.Kind.{Kind as AnyKind};
+ghost use Rattle.graph.specs.declared.kind.Kind.TheVariants.{Milestone};
 ghost use Rattle.rules.specs.Masked.{linked};
 ghost use Rattle.rules.specs.Laws.{lawful-graph, stationed-graph, sized-graph, owner-few};
 ghost use Rattle.rules.specs.Releases.{ReleasesAgree};
-ghost use Rattle.rules.specs.Semantics.{holding, lowest, meant, read, unmet};
+ghost use Rattle.rules.specs.Semantics.{holding, lowest, meant, read, related, unmet};
 ghost use Rattle.rules.specs.Words.{Rightful};
 
 use crate::decision::Decision;
@@ -13,6 +15,7 @@ use crate::masks::Masks;
 use crate::rule::Rule;
 use events::{EventSet, Marking};
 use graph::graph::Graph;
+use graph::kind::Kind;
 use graph::release::Release;
 
 /// The rule of a release over a graph.
@@ -20,9 +23,9 @@ use graph::release::Release;
 pub struct ReleaseRule {
     graph: Graph,
     release: Release,
-    // The relations that the release reads, and no others: so the rest is the same in each release.
+    // All relations of the graph, whatever the release: `milestones` leaves out what the release does not read.
     masks: Masks,
-    ghost ties: { ((kind : AnyKind) (a b : ℕ) → linked masks kind a b ≡ read release (content graph).relations kind a b) },
+    ghost ties: { ((kind : AnyKind) (a b : ℕ) → linked masks kind a b ≡ related (content graph).relations kind a b) },
 }
 
 impl ReleaseRule {
@@ -31,8 +34,9 @@ impl ReleaseRule {
         ensures of { result.graph ≡ graph }
         ensures release { result.release ≡ release }
         ensures right { Rightful release (content graph) (meant result.release (content result.graph)) }
+        ensures masks { (kind : AnyKind) (a b : ℕ) → linked result.masks kind a b ≡ related (content graph).relations kind a b }
     {
-        let masks = Masks::of(&graph, release);
+        let masks = Masks::of(&graph);
         ReleaseRule {
             graph,
             release,
@@ -44,9 +48,21 @@ impl ReleaseRule {
     pub fn of(graph: Graph) -> ReleaseRule
         ensures of { meant result.release (content result.graph) ≡ meant (content graph).release (content graph) }
         ensures right { Rightful (content graph).release (content graph) (meant result.release (content result.graph)) }
+        ensures masks { (kind : AnyKind) (a b : ℕ) → linked result.masks kind a b ≡ related (content graph).relations kind a b }
     {
         let release = graph.release();
         ReleaseRule::new(graph, release)
+    }
+
+    // The milestone sources of the event that the release reads, which in release 4 are none.
+    fn milestones(&self, event: u8) -> EventSet
+        ensures { (k : ℕ) → member result.bits k ≡ read self.now.release (content self.now.graph).relations Milestone k event }
+    {
+        if self.release.allows(Kind::Milestone) {
+            self.masks.milestones.row(event)
+        } else {
+            EventSet::empty()
+        }
     }
 
     // The lowest condition source of the event that is included and not executed.
@@ -62,7 +78,7 @@ impl ReleaseRule {
     fn holding_milestone(&self, event: u8, marking: &Marking) -> Option<u8>
         ensures { result ≡ lowest (holding (read self.now.release (content self.now.graph).relations) event (marks marking.now)) (length (content self.now.graph).events) }
     {
-        let included = self.masks.milestones.row(event).common(marking.included);
+        let included = self.milestones(event).common(marking.included);
         included.common(marking.pending).lowest()
     }
 }
@@ -107,7 +123,7 @@ impl Rule for ReleaseRule {
             .union(self.masks.responses.row(event))
             .union(self.masks.includes.row(event))
             .union(self.masks.excludes.row(event))
-            .union(self.masks.milestones.row(event))
+            .union(self.milestones(event))
     }
 
     fn decide(&self, event: u8, marking: &Marking) -> Decision {

@@ -3,7 +3,6 @@ use Rattle.std.proofs.Common.{arith}
 use Rattle.std.proofs.lemmas.Bool.Decides.{nat_tests}
 use Rattle.events.specs.Marks.{marks}
 use Rattle.graph.specs.Held.{content}
-use Rattle.graph.specs.declared.kind.Kind.TheVariants.{Milestone}
 use Rattle.rules.specs.Semantics.{holding, read}
 use Rattle.rules.specs.Laws.{graph-within, holding-within}
 use Rattle.rules.specs.Lowest.{lowest-member}
@@ -19,7 +18,6 @@ returns c =
     (λ k.
     let p = c.common.ensures k in
     let i = c.common-included.ensures k in
-    let s = c.row.ensures k in
-    let t = r.ties Milestone k e in grind (arith, nat_tests))
+    let s = c.milestones.ensures k in grind (arith, nat_tests))
     (holding-within rel _ (graph-within r.graph r.release) e M)
     c.lowest.ensures
