@@ -18,8 +18,11 @@ pub(crate) fn lowest_pair<L: Line>(line: &L) -> Option<Pair>
     ensures { MatchOption result (lowest_pair (queues (L.Line.waits line.now)) ≡ None) (λ p. (lowest_pair (queues (L.Line.waits line.now)) ≡ Some (8 * p.from + p.to)) × (p.to < 8)) }
 {
     for from in StationId::all() {
-        for to in StationId::all() {
-            if line.count(from.into(), to.into()) > 0 {
+        let a = u8::from(from);
+        // By number: in a walk over the stations themselves each pair is looked at by itself.
+        for b in 0..8u8 {
+            if line.count(a, b) > 0 {
+                let to = StationId::try_from(b).ok()?;
                 return Some(Pair { from, to });
             }
         }

@@ -25,6 +25,7 @@ impl<'r, R: Rule> Role<'r, R> {
     pub fn events(&self) -> EventSet
         ensures { (k : ℕ) → member result.bits k ≡ owns (R.Rule.meaning self.now.rule.now) self.now.me k }
     {
-        EventSet::first(self.rule.events()).filter(|event| self.owns(event))
+        let me = u8::from(self.me);
+        EventSet::first(self.rule.events()).filter(|event| self.rule.owner(event) == me)
     }
 }

@@ -6,5 +6,5 @@ use Rattle.site.proofs.pairs.lowest_pair.Given as goal
 abbrev pub invariant-loop-from : goal.invariant-loop-from
 invariant-loop-from g l = NoneBefore (g.L.Line.waits l.line) (8 * l.from-index + 0)
 
-abbrev pub invariant-loop-to : goal.invariant-loop-to
-invariant-loop-to g l = NoneBefore (g.L.Line.waits l.line) (8 * l.from-index + l.to-index)
+abbrev pub invariant-loop-b : goal.invariant-loop-b
+invariant-loop-b g l = NoneBefore (g.L.Line.waits l.line) (8 * l.from-index + l.b)
