@@ -7,3 +7,4 @@ pub mod Tellings
 pub mod Freeing
 pub mod Granting
 pub mod Sendings
+pub mod Strays

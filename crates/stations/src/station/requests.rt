@@ -1,4 +1,4 @@
-ghost use Rattle.std.specs.Prelude.{◌≡◌, ℕ, ◌&&◌, if◌then◌else◌};
+ghost use Rattle.std.specs.Prelude.{◌≡◌, ℕ, ◌&&◌, OnErr, if◌then◌else◌};
 ghost use Rattle.events.specs.Marks.{marks};
 ghost use Rattle.events.specs.Members.{member};
 ghost use Rattle.protocol.specs.Station.{begins, fresh, is_resting, owns};
@@ -47,9 +47,10 @@ impl Station {
         matches!(self.state, State::Resting)
     }
 
-    /// Opens a request of the event, and asks for its lowest lock.
+    /// Opens a request of the event, and asks for its lowest lock. Where there is none, nothing changes.
     pub fn begin<R: Rule>(&mut self, rule: &R, event: u8) -> Result<Outbox, StrayMessage>
-        ensures { Begins self.new result (begins (R.Rule.meaning rule.now) (shows self.old) event (lowest ((R.Rule.meaning rule.now).locks event) (R.Rule.meaning rule.now).events)) }
+        ensures begins { Begins self.new result (begins (R.Rule.meaning rule.now) (shows self.old) event (lowest ((R.Rule.meaning rule.now).locks event) (R.Rule.meaning rule.now).events)) }
+        ensures stray { OnErr result (shows self.new ≡ shows self.old) }
     {
         let had = EventSet::empty();
         let lock = next_lock(rule, event, had).ok_or(StrayMessage)?;

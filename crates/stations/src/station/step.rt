@@ -2,7 +2,7 @@ ghost use Rattle.events.specs.Members.{member};
 ghost use Rattle.protocol.specs.Station.{is, missing, step};
 ghost use Rattle.stations.specs.Shows.{shows};
 ghost use Rattle.stations.specs.Steps.{Takes};
-ghost use Rattle.std.specs.Prelude.{◌≡◌, ◌&&◌, Some, ◌==◌};
+ghost use Rattle.std.specs.Prelude.{◌≡◌, ◌&&◌, OnErr, Some, ◌==◌};
 
 use super::{State, Station};
 use crate::lock_sets::next_lock;
@@ -32,7 +32,8 @@ impl Station {
         from: StationId,
         note: Option<Note>,
     ) -> Result<(Option<Answer>, Outbox), StrayMessage>
-        ensures { Takes self.new result (step (R.Rule.meaning role.now.rule.now) role.now.me (shows self.old) from note) }
+        ensures takes { Takes self.new result (step (R.Rule.meaning role.now.rule.now) role.now.me (shows self.old) from note) }
+        ensures stray { OnErr result (shows self.new ≡ shows self.old) }
     {
         let rule = role.rule;
         match (&mut self.state, note) {

@@ -14,16 +14,16 @@ pub returns-in_err-out : goal.returns-in_err-out
 returns-in_err-out g c =
     let p = err_from_is_err_and c.from_residual-in_err-out.result c.from_residual-in_err-out.ensures.1 in
     rw (p.1, p.2)
-    (request-stray g.R.Rule g.L.Line c.args.self.now (lent c.as_mut.ensures.value c.in_ok-stations.ensures.ok_part) _ _ (c.in_ok-me.ensures (g.L.Line.waits c.args.self.now.line)) c.from-at.ensures.0 c.requires c.in_err-out.ensures)
+    (request-stray g.R.Rule g.L.Line c.args.self.now (lent c.as_mut.ensures.value c.in_ok-stations.ensures.ok_part) _ _ (c.in_ok-me.ensures (g.L.Line.waits c.args.self.now.line)) c.from-at.ensures.0 c.requires c.in_err-out.ensures.begins)
 
 pub returns-in_err-send : goal.returns-in_err-send
 returns-in_err-send g c =
     let p = err_from_is_err_and c.from_residual-in_err-send.result c.from_residual-in_err-send.ensures.1 in
     let sent = c.in_err-send.ensures in
     rw (p.1, p.2)
-    (request-full g.R.Rule g.L.Line c.args.self.now (lent c.as_mut.ensures.value c.in_ok-stations.ensures.ok_part) _ _ (c.in_ok-me.ensures (g.L.Line.waits c.args.self.now.line)) c.from-at.ensures.0 c.in_ok-out.ensures c.send.new.line sent.kept sent.answer sent.lists)
+    (request-full g.R.Rule g.L.Line c.args.self.now (lent c.as_mut.ensures.value c.in_ok-stations.ensures.ok_part) _ _ (c.in_ok-me.ensures (g.L.Line.waits c.args.self.now.line)) c.from-at.ensures.0 c.in_ok-out.ensures.begins c.send.new.line sent.kept sent.answer sent.lists)
 
 pub returns : goal.returns
 returns g c =
     let sent = c.in_ok-send.ensures in
-    request-opened g.R.Rule g.L.Line c.args.self.now (lent c.as_mut.ensures.value c.in_ok-stations.ensures.ok_part) _ _ (c.in_ok-me.ensures (g.L.Line.waits c.args.self.now.line)) c.from-at.ensures.0 c.in_ok-out.ensures c.send.new.line sent.kept sent.lists
+    request-opened g.R.Rule g.L.Line c.args.self.now (lent c.as_mut.ensures.value c.in_ok-stations.ensures.ok_part) _ _ (c.in_ok-me.ensures (g.L.Line.waits c.args.self.now.line)) c.from-at.ensures.0 c.in_ok-out.ensures.begins c.send.new.line sent.kept sent.lists
