@@ -1,9 +1,8 @@
 -- What the lists of a site hold.
-use Rattle.std.proofs.Common.{◌≡◌, ℕ, ◌<◌, ◌≤◌, Bool, true, false, cond, ◌&&◌, eqb, ltb, [], is_some, None, Ok, Option, sym, refl, ap, ◌∙◌, ap₂, arith, MatchOption}
+use Rattle.std.proofs.Common.{◌≡◌, ℕ, ◌<◌, ◌≤◌, Bool, true, false, ◌&&◌, eqb, ltb, [], is_some, None, Ok, Option, sym, refl, ap, ◌∙◌, ap₂, arith, MatchOption}
 use Rattle.std.proofs.lemmas.Bool.{lt-ltb}
 use Rattle.std.proofs.lemmas.Bool.Decides.{nat_tests}
 use Rattle.events.proofs.MemberLaws.{same-members}
-use Rattle.events.specs.Marks.{unmarked}
 use Rattle.events.specs.Members.{member}
 use Rattle.events.specs.Sets.{EventSet}
 use Rattle.events.specs.declared.marks.Marks.{Marks}
@@ -20,12 +19,6 @@ use Rattle.rules.specs.Rule.{Lawful, Meaning}
 use Rattle.tables.specs.Runs.{accepts}
 use Rattle.site.proofs.LowestPairs.{none_found}
 use Rattle.site.proofs.Serving.{does}
-
--- ---- the marks of the events, gathered from one station after another
-
--- the marks of the events whose owners are below n
-abbrev pub gathered_below : Meaning → Site → ℕ → ℕ → Marks
-gathered_below R S n e = cond (ltb (R.owner e) n) (gathered R S e) unmarked
 
 -- ---- sets of events
 

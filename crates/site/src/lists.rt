@@ -16,7 +16,6 @@ use protocol::refusal::Refusal;
 use rules::rule::Rule;
 use stations::role::Role;
 use stations::station::Station;
-use stations::station_id::StationId;
 use tables::table::enabled_events;
 
 // Each event's marks, as its owner has them.
@@ -24,8 +23,9 @@ fn gathered<R: Rule>(rule: &R, stations: &[Station; 8]) -> Marking
     ensures { (W : Lists) (k : ℕ) → k < (R.Rule.meaning rule.now).events → marks result k ≡ gathered (R.Rule.meaning rule.now) (site_of W stations.now) k }
 {
     let mut marking = Marking::blank();
-    for me in StationId::all() {
-        marking = stations[usize::from(me)].overlay_own(&Role { rule, me }, marking);
+    for event in 0..rule.events() {
+        let owner = usize::from(rule.owner(event));
+        marking = marking.with_marks(event, stations[owner].marks(event));
     }
     marking
 }

@@ -10,7 +10,7 @@ use super::{Lock, State, Station};
 use crate::lock_sets::next_lock;
 use crate::outbox::Outbox;
 use crate::role::Role;
-use events::{EventSet, Marking, StationSet};
+use events::{EventSet, Marking, Marks, StationSet};
 use lines::note::Note;
 use protocol::delivery::StrayMessage;
 use rules::rule::Rule;
@@ -57,6 +57,13 @@ impl Station {
         let seen = Marking::blank();
         self.state = State::Asking { event, had, seen };
         Ok(Outbox::single(rule.owner(lock), Note::Ask { event: lock }))
+    }
+
+    /// The marks that the station has of the event.
+    pub fn marks(&self, event: u8) -> Marks
+        ensures { result ≡ (shows self.now).marks event }
+    {
+        self.marking.marks(event)
     }
 
     /// The marking with the marks of the station's own events laid over it.
