@@ -114,8 +114,9 @@ impl<W: Word> Set<W> {
         ensures no_more { (k : ℕ) → member (W.number self.bits) k ≡ false → member (W.number result.bits) k ≡ false }
     {
         let mut passing = Self::empty();
-        for number in self.members() {
-            if test(number) {
+        // By number, and not from one member to the next: so no test waits for the one before.
+        for number in 0..end(self.bits.widen()) {
+            if self.has(number) && test(number) {
                 passing = passing.with(number);
             }
         }
@@ -155,6 +156,14 @@ fn bit<W: Word>(number: u8) -> u64
     ensures below { result < 2 ^ W.WIDTH }
 {
     if number < W::WIDTH { 1 << number } else { 0 }
+}
+
+// The lowest number that is above all whose bits are 1.
+fn end(bits: u64) -> u8
+    ensures past { (k : ℕ) → result ≤ k → member bits k ≡ false }
+    ensures few { result ≤ 64 }
+{
+    (64 - bits.leading_zeros()) as u8
 }
 
 // The number whose bits below `count` are 1.
