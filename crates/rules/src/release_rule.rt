@@ -127,15 +127,16 @@ impl Rule for ReleaseRule {
     }
 
     fn decide(&self, event: u8, marking: &Marking) -> Decision {
+        // Both are looked up first, so that whether an event is accepted takes no branch.
+        let unmet = self.unmet_condition(event, marking);
+        let holding = self.holding_milestone(event, marking);
         if !marking.included.has(event) {
             return Decision::Excluded(event);
         }
-        if let Some(source) = self.unmet_condition(event, marking) {
-            return Decision::Unmet(source);
-        }
-        match self.holding_milestone(event, marking) {
-            Some(source) => Decision::Held(source),
-            None => Decision::Accepted,
+        match (unmet, holding) {
+            (Some(source), _) => Decision::Unmet(source),
+            (None, Some(source)) => Decision::Held(source),
+            (None, None) => Decision::Accepted,
         }
     }
 
